@@ -19,7 +19,6 @@ drop_first (suc k) (suc n) (x ∷ xs) = drop_first k n xs ∙ ap (λ j. take j (
 
 pub overlaid_first : {X : Type 0} (n at : ℕ) (xs ws : List X) → at ≤ n → n ≤ length xs →
     take n (overlaid_within at xs ws) ≡ overlaid_within at (take n xs) ws
-unfolding overlaid
 overlaid_first n at xs ws le room =
     let k = at + length ws in
     let size : length (take n xs) ≡ n = length-take-le n xs room in
@@ -43,7 +42,6 @@ group_room first count vlenb h = omega (arith, add-mul first count vlenb, mul-le
 
 -- what fits over a list leaves as many items
 pub overlaid_fits : {X : Type 0} (at : ℕ) (xs ws : List X) → at + length ws ≤ length xs → overlaid_within at xs ws ≡ overlaid at ws xs
-unfolding overlaid
 overlaid_fits at xs ws h =
     let front = length-take-le at xs (omega (arith, h)) in
     let both = length-append (take at xs) ws in

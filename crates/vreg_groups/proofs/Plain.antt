@@ -7,12 +7,11 @@ use Rattle.rv_decode.specs.declared.extents.Extent.TheVariants.{Group}
 use Rattle.rv_decode.specs.declared.extents.Operand.{Operand}
 use Rattle.rv_decode.specs.declared.extents.Sharing.TheVariants.{ByWidth}
 use Rattle.vreg_groups.specs.declared.vector_type.Vtype.{Vtype}
-use Rattle.vreg_groups.specs.Legality.{is_pair_legal, is_overlap_legal, may_overlap, element_bits, eew_bits, are_apart, registers_of}
+use Rattle.vreg_groups.specs.Legality.{is_pair_legal, eew_bits, are_apart, registers_of}
 
 -- They may overlap in any way.
 pub same_width : (t : Vtype) (e : Eew) (a b : ℕ) →
     is_pair_legal (Some t) ByWidth (record { first = a; extent = Group e }) (record { first = b; extent = Group e }) ≡ true
-unfolding is_pair_legal is_overlap_legal may_overlap element_bits
 same_width t e a b =
     let one : Operand = record { first = a; extent = Group e } in
     let other : Operand = record { first = b; extent = Group e } in

@@ -3,7 +3,7 @@ use Rattle.std.proofs.Common.{ℕ, ◌+◌, ◌*◌, ◌<◌, ◌≤◌, ◌≡�
 use Rattle.std.proofs.lemmas.List.{take-take, length-take-le}
 use Rattle.std.specs.Prelude.{All}
 use Rattle.std.specs.List.{flat_map}
-use Rattle.vreg_groups.specs.Elements.{bytes_of, bytes_from, elements_of, numbers_of}
+use Rattle.vreg_groups.specs.Elements.{bytes_of, bytes_from, numbers_of}
 use Rattle.vreg_groups.specs.NewElements.{bytes_written}
 use Rattle.vreg_groups.specs.VectorLength.{IsVlenb}
 use Rattle.vreg_groups.specs.Group.{Span, IsSize, body_of, written}
@@ -15,7 +15,6 @@ pub body_numbers : (vlenb first count size vl : ℕ) (group : Span) (file part :
     record { first = first; count = count; bytes = size; vl = vl } ≡ group → size * vl ≤ count * vlenb →
     part ≡ bytes_from (first * vlenb) (count * vlenb) file →
     body_of vlenb group file ≡ numbers_of group.bytes group.vl (take (size * vl) part)
-unfolding body_of elements_of
 body_numbers vlenb first count size vl group file part e fits is =
     let f : first ≡ group.first = ap (λ (g : Span). g.first) e in
     let b : size ≡ group.bytes = ap (λ (g : Span). g.bytes) e in
@@ -51,7 +50,6 @@ pub group_written : (vlenb first count size vl : ℕ) (group : Span) (policy : P
     All (λ byte. byte < 256) file → length file ≡ 32 * vlenb → All (λ byte. byte < 256) given →
     new ≡ bytes_written (first * vlenb) ((first + count) * vlenb) policy.tail given file →
     new ≡ written vlenb group policy (numbers_of group.bytes group.vl given) (replicate group.vl true) file
-unfolding written
 group_written vlenb first count size vl group policy given file new e v room fits s len file_small registers given_small is =
     let f : first ≡ group.first = ap (λ (g : Span). g.first) e in
     let n : count ≡ group.count = ap (λ (g : Span). g.count) e in

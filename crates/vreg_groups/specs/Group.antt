@@ -40,11 +40,11 @@ abbrev pub IsGroupInside : Vtype → ℕ → Eew → Type 0
 IsGroupInside t first eew = IsInside t (record { first = first; extent = extent.Group eew })
 
 -- the elements of its body
-unfoldable pub body_of : ℕ → Span → List ℕ → List ℕ
+abbrev pub body_of : ℕ → Span → List ℕ → List ℕ
 body_of vlenb group file = elements_of vlenb group.bytes group.first group.vl file
 
 -- the bytes of those elements
-unfoldable pub body_bytes : ℕ → Span → List ℕ → List ℕ
+abbrev pub body_bytes : ℕ → Span → List ℕ → List ℕ
 body_bytes vlenb group file = bytes_from (group.first * vlenb) (group.bytes * group.vl) file
 
 -- an element has 8, 16 or 32 bits
@@ -52,6 +52,6 @@ abbrev pub IsSize : ℕ → Type 0
 IsSize size = (size ≡ 1) ⊎ (size ≡ 2) ⊎ (size ≡ 4)
 
 -- the registers after results were written to it
-unfoldable pub written : ℕ → Span → Policy → List ℕ → List Bool → List ℕ → List ℕ
+abbrev pub written : ℕ → Span → Policy → List ℕ → List Bool → List ℕ → List ℕ
 written vlenb group policy results active file =
     write_of vlenb group.bytes group.first group.count policy results active file

@@ -8,7 +8,7 @@ use Rattle.std.specs.Prelude.{nat_lt, if◌then◌else◌, All}
 use Rattle.std.specs.List.{range_with_len, flat_map, list_all}
 use Rattle.std.proofs.Math.Nat.{mul-le-mul_left, pow-suc, one-le-pow, le_of_mul-le-mul_left}
 use Rattle.vreg_groups.specs.Elements.{number_at, bytes_of, bytes_from, element_at, numbers_of}
-use Rattle.vreg_groups.specs.NewElements.{bytes_written, filled, new_element, overlaid, replaced, new_bytes, write_of}
+use Rattle.vreg_groups.specs.NewElements.{bytes_written, filled, overlaid, replaced, new_bytes, write_of}
 use Rattle.vreg_groups.specs.declared.policies.Agnostic.{Agnostic}
 use Rattle.vreg_groups.specs.declared.policies.Agnostic.TheVariants.{Keep, Ones}
 use Rattle.vreg_groups.specs.declared.policies.Policy.{Policy}
@@ -28,7 +28,6 @@ flat_map_same f g a (suc n) h =
 
 pub replaced_same : (size at n : ℕ) (f g : ℕ → List ℕ) (bytes : List ℕ) → ((i : ℕ) → i < n → f i ≡ g i) →
     replaced size at n f bytes ≡ replaced size at n g bytes
-unfolding replaced
 replaced_same size at n f g bytes h =
     ap (λ xs. take at bytes ++ xs ++ drop (at + size * n) bytes)
     (flat_map_same f g 0 n (λ i j lt e. h j (omega arith)))
@@ -57,7 +56,6 @@ pub replaced_then : (size at m n : ℕ) (piece : ℕ → List ℕ) (others bytes
     ((j : ℕ) → length (piece j) ≡ size) → at + size * (m + n) ≤ length bytes →
     flat_map (λ i. piece (m + i)) (range_with_len 0 n) ≡ others →
     overlaid (at + size * m) others (replaced size at m piece bytes) ≡ replaced size at (m + n) piece bytes
-unfolding overlaid replaced
 replaced_then size at m n piece others bytes h room e =
     let before = take at bytes in
     let front = before ++ flat_map piece (range_with_len 0 m) in
@@ -109,7 +107,6 @@ flat_map_ones size a (suc n) =
 -- a number's bytes are those that it was read from
 pub bytes_of-number_at : (n at : ℕ) (bytes : List ℕ) → at + n ≤ length bytes → ((i : ℕ) → get_or bytes i 0 < 256) →
     bytes_of n (number_at n at bytes) ≡ take n (drop at bytes)
-unfolding number_at
 bytes_of-number_at zero at bytes room small = nil_from_length (bytes_of 0 0) (length-bytes_of 0 0)
 bytes_of-number_at (suc n) at bytes room small =
     let low = small at in
@@ -141,7 +138,6 @@ pub bytes_of-elements : (size at a n : ℕ) (bytes : List ℕ) → at + size * (
     ((i : ℕ) → get_or bytes i 0 < 256) →
     flat_map (λ i. bytes_of size (element_at size at bytes i)) (range_with_len a n)
     ≡ take (size * n) (drop (at + size * a) bytes)
-unfolding element_at
 bytes_of-elements size at a zero bytes room small =
     let none : 0 ≡ size * 0 = omega arith in
     ap (λ k. take k (drop (at + size * a) bytes)) none
@@ -161,11 +157,10 @@ bytes_of-elements size at a (suc n) bytes room small =
 -- ---- results that are all active
 
 -- the bytes of result i
-unfoldable pub result_bytes : ℕ → List ℕ → ℕ → List ℕ
+abbrev pub result_bytes : ℕ → List ℕ → ℕ → List ℕ
 result_bytes size results i = bytes_of size (get_or results i 0)
 
 pub length-result_bytes : (size : ℕ) (results : List ℕ) (i : ℕ) → length (result_bytes size results i) ≡ size
-unfolding result_bytes
 length-result_bytes size results i = length-bytes_of size _
 
 -- the bytes after one more result was put
@@ -175,7 +170,6 @@ pub put_more : {E : Type 0} (number : E → ℕ) (size at i width : ℕ) (values
     now ≡ replaced size at i (result_bytes size (map number values)) bytes →
     next ≡ take (at + width * i) now ++ bytes_of size (number value) ++ drop (at + width * i + size) now →
     next ≡ replaced size at (i + 1) (result_bytes size (map number values)) bytes
-unfolding result_bytes
 put_more number size at i width values bytes now next value e room lt is inv put =
     let results = map number values in
     let place : at + width * i ≡ at + size * i = ap (λ w. at + w * i) e in
@@ -192,7 +186,6 @@ flat_map-map f g (x ∷ xs) = ap (λ ys. f (g x) ++ ys) (flat_map-map f g xs)
 -- the bytes of all results
 pub flat_map-results : (size : ℕ) (results : List ℕ) →
     flat_map (result_bytes size results) (range_with_len 0 (length results)) ≡ flat_map (bytes_of size) results
-unfolding result_bytes
 flat_map-results size results =
     let is : results ≡ map (λ i. get_or results i 0) (range_with_len 0 (length results)) =
     fill_by_all (λ i. get_or results i 0) results (length results) 0 refl (λ k lt. refl) in
@@ -202,7 +195,6 @@ flat_map-results size results =
 -- pieces of one size put over what was there
 pub overlaid_is : (size at n : ℕ) (piece : ℕ → List ℕ) (others bytes : List ℕ) → ((j : ℕ) → length (piece j) ≡ size) →
     flat_map piece (range_with_len 0 n) ≡ others → replaced size at n piece bytes ≡ overlaid at others bytes
-unfolding overlaid replaced
 overlaid_is size at n piece others bytes h e =
     let len : size * n ≡ length others = sym (length-flat_map_range piece size 0 n h) ∙ ap length e in
     ap (λ xs. take at bytes ++ xs ++ drop (at + size * n) bytes) e
@@ -228,7 +220,6 @@ list_all-at (false ∷ flags) i h lt = cc
 new_bytes-active : (size at : ℕ) (policy : Policy) (results : List ℕ) (active : List Bool) (bytes : List ℕ) (i : ℕ) →
     i < length results → get_or active i false ≡ true →
     result_bytes size results i ≡ new_bytes size at policy results active bytes i
-unfolding new_bytes new_element result_bytes
 new_bytes-active size at policy results active bytes i lt is =
     let old = element_at size at bytes i in
     let inactive = filled policy.inactive (256 ^ size - 1) old in
@@ -256,7 +247,6 @@ put_is size at policy results active bytes all told =
 -- ---- elements that no result is written to
 
 overlaid_self : (at n : ℕ) (bytes : List ℕ) → n ≤ length (drop at bytes) → overlaid at (take n (drop at bytes)) bytes ≡ bytes
-unfolding overlaid
 overlaid_self at n bytes h =
     let len : length (take n (drop at bytes)) ≡ n = length-take-le n (drop at bytes) h in
     ap (λ k. take at bytes ++ take n (drop at bytes) ++ drop (at + k) bytes) len
@@ -313,7 +303,6 @@ new_bytes-inactive : (size at : ℕ) (policy : Policy) (results : List ℕ) (act
     i < length results → length active ≤ i →
     new_bytes size at policy results active bytes i
     ≡ bytes_of size (filled policy.inactive (256 ^ size - 1) (element_at size at bytes i))
-unfolding new_bytes new_element
 new_bytes-inactive size at policy results active bytes i lt past =
     let old = element_at size at bytes i in
     let inactive = filled policy.inactive (256 ^ size - 1) old in
@@ -327,7 +316,6 @@ new_bytes-tail : (size at : ℕ) (policy : Policy) (results : List ℕ) (active 
     length results ≤ i →
     new_bytes size at policy results active bytes i
     ≡ bytes_of size (filled policy.tail (256 ^ size - 1) (element_at size at bytes i))
-unfolding new_bytes new_element
 new_bytes-tail size at policy results active bytes i past =
     let old = element_at size at bytes i in
     let inactive = filled policy.inactive (256 ^ size - 1) old in
@@ -339,7 +327,6 @@ new_bytes-tail size at policy results active bytes i past =
 new_bytes-front : (size at n : ℕ) (policy : Policy) (results : List ℕ) (active : List Bool) (bytes : List ℕ) (i : ℕ) →
     n ≤ length results → n ≤ length active → i < n →
     new_bytes size at policy (take n results) (take n active) bytes i ≡ new_bytes size at policy results active bytes i
-unfolding new_bytes new_element
 new_bytes-front size at n policy results active bytes i r a lt =
     let old = element_at size at bytes i in
     let inactive = filled policy.inactive (256 ^ size - 1) old in
@@ -483,7 +470,6 @@ write_all_is number size at count body policy values bytes first last q d room a
 -- numbers that were read from bytes have those bytes
 pub bytes_of-numbers_of : (size n : ℕ) (bytes : List ℕ) → length bytes ≡ size * n → All (λ byte. byte < 256) bytes →
     flat_map (bytes_of size) (numbers_of size n bytes) ≡ bytes
-unfolding numbers_of
 bytes_of-numbers_of size n bytes len small =
     let start : 0 + size * 0 ≡ 0 = omega arith in
     let none : 0 + n ≡ n = omega arith in
@@ -496,7 +482,6 @@ bytes_of-numbers_of size n bytes len small =
 -- the elements of a group are the numbers of its bytes
 pub elements_of_bytes : (size at n : ℕ) (bytes : List ℕ) →
     map (element_at size at bytes) (range_with_len 0 n) ≡ numbers_of size n (bytes_from at (size * n) bytes)
-unfolding numbers_of element_at
 elements_of_bytes size at n bytes =
     let part = bytes_from at (size * n) bytes in
     fill_by_all (element_at size 0 part) (map (element_at size at bytes) (range_with_len 0 n)) n 0
@@ -511,7 +496,6 @@ elements_of_bytes size at n bytes =
     sym (get_or-take (size * n) (drop at bytes) b 0 inside ∙ get_or-drop at bytes b 0 ∙ ap (λ j. get_or bytes j 0) place)))
 
 pub length-numbers_of : (size n : ℕ) (bytes : List ℕ) → length (numbers_of size n bytes) ≡ n
-unfolding numbers_of
 length-numbers_of size n bytes = length-map-range_with_len (element_at size 0 bytes) 0 n
 
 mul-add : (a b c : ℕ) → a * (b + c) ≡ a * b + a * c
@@ -524,7 +508,6 @@ pub written_bytes : (vlenb size first count vl : ℕ) (policy : Policy) (given f
     size * vl ≤ count * vlenb →
     bytes_written (first * vlenb) ((first + count) * vlenb) policy.tail given file
     ≡ write_of vlenb size first count policy (numbers_of size vl given) (replicate vl true) file
-unfolding bytes_written write_of
 written_bytes vlenb size first count vl policy given file v s group registers file_small given_small len fits =
     let at = first * vlenb in
     let elements = count * vlenb / size in

@@ -18,7 +18,6 @@ use Rattle.vreg_groups.specs.declared.policies.Policy.{Policy}
 
 -- a number of n bytes takes n bytes
 pub length-bytes_of : (n v : ℕ) → length (bytes_of n v) ≡ n
-unfolding bytes_of
 length-bytes_of n v = length-bytes_low_first 0 n v
 
 byte_at_place : (k v : ℕ) → byte_at k v ≡ v / 256 ^ k % 256
@@ -37,14 +36,12 @@ bytes_above j (suc n) v =
 
 -- the lowest byte and the others
 pub bytes_of-suc : (n v : ℕ) → bytes_of (suc n) v ≡ v % 256 ∷ bytes_of n (v / 256)
-unfolding bytes_of
 bytes_of-suc n v = ap (λ xs. v % 256 ∷ xs) (bytes_above 0 n v)
 
 -- a number is made of its own bytes alone
 pub number_at_same : (n a b : ℕ) (xs ys : List ℕ) →
     ((k i j : ℕ) → k < n → i ≡ a + k → j ≡ b + k → get_or xs i 0 ≡ get_or ys j 0) →
     number_at n a xs ≡ number_at n b ys
-unfolding number_at
 number_at_same zero a b xs ys h = refl
 number_at_same (suc n) a b xs ys h =
     let low : get_or xs a 0 ≡ get_or ys b 0 = h 0 a b (omega arith) (omega arith) (omega arith) in
@@ -98,7 +95,6 @@ length_front size at i piece bytes h room =
 pub drop-replaced : (size at i : ℕ) (piece : ℕ → List ℕ) (bytes : List ℕ) →
     ((j : ℕ) → length (piece j) ≡ size) → at + size * i ≤ length bytes →
     drop (at + size * i) (replaced size at i piece bytes) ≡ drop (at + size * i) bytes
-unfolding replaced
 drop-replaced size at i piece bytes h room =
     drop_at (take at bytes ++ flat_map piece (range_with_len 0 i)) (drop (at + size * i) bytes) (at + size * i)
     (length_front size at i piece bytes h room)
@@ -109,7 +105,6 @@ pub replaced_more : (size at i : ℕ) (piece : ℕ → List ℕ) (bytes : List �
     take (at + size * i) (replaced size at i piece bytes) ++ piece i
     ++ drop (at + size * i + size) (replaced size at i piece bytes)
     ≡ replaced size at (i + 1) piece bytes
-unfolding replaced
 replaced_more size at i piece bytes h room =
     let front = take at bytes ++ flat_map piece (range_with_len 0 i) in
     let now = front ++ drop (at + size * i) bytes in
@@ -133,7 +128,6 @@ begins_inside size at i n len le room = omega (arith, mul-le-mul_left size le)
 
 -- before the first piece nothing is replaced
 pub replaced_none : (size at : ℕ) (piece : ℕ → List ℕ) (bytes : List ℕ) → bytes ≡ replaced size at 0 piece bytes
-unfolding replaced
 replaced_none size at piece bytes =
     let start : at + size * 0 ≡ at = omega arith in
     sym (take-append-drop at bytes) ∙ ap (λ xs. xs ++ drop at bytes) (sym (append-nil (take at bytes)))
@@ -156,7 +150,6 @@ if-map f false x y = refl
 -- a new element seen through a function is the new element of what the function sees
 pub new_element-map : {A B : Type 0} (f : A → B) (policy : Policy) (ones : A) (results : List A) (active : List Bool) (i : ℕ) (old : A) →
     f (new_element policy ones results active i old) ≡ new_element policy (f ones) (map f results) active i (f old)
-unfolding new_element
 new_element-map f policy ones results active i old =
     let inside : nat_lt i (length (map f results)) ≡ nat_lt i (length results) = ap (nat_lt i) (length-map results f) in
     let active_one = get_or active i false in
@@ -175,13 +168,11 @@ new_element-map f policy ones results active i old =
 
 pub length-new_bytes : (size at : ℕ) (policy : Policy) (results : List ℕ) (active : List Bool) (bytes : List ℕ) (j : ℕ) →
     length (new_bytes size at policy results active bytes j) ≡ size
-unfolding new_bytes
 length-new_bytes size at policy results active bytes j = length-bytes_of size _
 
 new_bytes_is : (size at : ℕ) (policy : Policy) (results : List ℕ) (active : List Bool) (bytes : List ℕ) (i v : ℕ) →
     v ≡ new_element policy (256 ^ size - 1) results active i (element_at size at bytes i) →
     bytes_of size v ≡ new_bytes size at policy results active bytes i
-unfolding new_bytes
 new_bytes_is size at policy results active bytes i v e = ap (bytes_of size) e
 
 -- the elements after one more was written
@@ -192,7 +183,6 @@ pub written_more : {E : Type 0} (number : E → ℕ) (size at i width : ℕ) (po
     now ≡ replaced size at i (new_bytes size at policy (map number values) active bytes) bytes →
     next ≡ take (at + width * i) now ++ bytes_of size (number new) ++ drop (at + width * i + size) now →
     next ≡ replaced size at (i + 1) (new_bytes size at policy (map number values) active bytes) bytes
-unfolding element_at
 written_more number size at i width policy values active bytes now next ones old new e room o l n inv put =
     let piece = new_bytes size at policy (map number values) active bytes in
     let sizes = length-new_bytes size at policy (map number values) active bytes in
@@ -216,7 +206,6 @@ pub mask_written_more : (at j : ℕ) (policy : Policy) (values active : List Boo
     new ≡ new_mask_byte policy values active j (get_or now (at + j) 0) →
     now ≡ replaced 1 at j (new_mask_bytes at policy values active bytes) bytes →
     set now (at + j) new ≡ replaced 1 at (j + 1) (new_mask_bytes at policy values active bytes) bytes
-unfolding new_mask_bytes
 mask_written_more at j policy values active bytes now new room len n inv =
     let piece = new_mask_bytes at policy values active bytes in
     let place : at + 1 * j ≡ at + j = omega arith in
@@ -247,7 +236,6 @@ pub bits_more : (at : ℕ) (bytes : List ℕ) (out : List Bool) (j k byte : ℕ)
     new ≡ bit_of byte k → byte ≡ get_or bytes (at + j) 0 →
     ((i : ℕ) (d : Bool) → i < 8 * j + k → get_or out i d ≡ bit_at at bytes i) →
     (i : ℕ) (d : Bool) → i < 8 * j + (k + 1) → get_or (set out (8 * j + k) new) i d ≡ bit_at at bytes i
-unfolding bit_at
 bits_more at bytes out j k byte new low room n b inv i d lt =
     elim (cases_lt i (8 * j + k)) [
       | inl before ↦
@@ -269,7 +257,6 @@ bits_more at bytes out j k byte new low room n b inv i d lt =
 pub new_element_in_body : {A : Type 0} (policy : Policy) (ones : A) (results : List A) (active : List Bool) (i : ℕ) (old value : A)
     (is_active : Bool) (new : A) → i < length results → value ≡ get_or results i value → is_active ≡ get_or active i false →
     new ≡ (if is_active then value else filled policy.inactive ones old) → new ≡ new_element policy ones results active i old
-unfolding new_element
 new_element_in_body policy ones results active i old value is_active new lt v a n =
     let inactive = filled policy.inactive ones old in
     let inside : nat_lt i (length results) ≡ true = grind (arith, nat_tests) in

@@ -26,7 +26,6 @@ pub is_replaced : (size at n : ℕ) (policy : Policy) (results : List ℕ) (acti
     ((i : ℕ) → i < n → element_at size at new i ≡ new_element policy (256 ^ size - 1) results active i (element_at size at old i)) →
     ((k : ℕ) → (k < at) ⊎ (at + size * n ≤ k) → get_or new k 0 ≡ get_or old k 0) →
     new ≡ replaced size at n (new_bytes size at policy results active old) old
-unfolding replaced new_bytes
 is_replaced size at n policy results active old new room same small elements others =
     let first : take at new ≡ take at old = before at new old (omega (arith, room)) same (λ k lt. others k (inl lt)) in
     let last : drop (at + size * n) new ≡ drop (at + size * n) old = past (at + size * n) new old same (λ k le. others k (inr le)) in
@@ -48,7 +47,6 @@ pub is_written : (vlenb size first count : ℕ) (policy : Policy) (results : Lis
     ((i : ℕ) → size * i + size ≤ count * vlenb → element_at size (first * vlenb) new i ≡ new_element policy (256 ^ size - 1) results active i (element_at size (first * vlenb) old i)) →
     ((k : ℕ) → (k < first * vlenb) ⊎ ((first + count) * vlenb ≤ k) → get_or new k 0 ≡ get_or old k 0) →
     new ≡ write_of vlenb size first count policy results active old
-unfolding write_of
 is_written vlenb size first count policy results active old new v s group registers same small elements others =
     let n = count * vlenb / size in
     let whole : size * n ≡ count * vlenb = whole_elements vlenb size count v s in

@@ -21,12 +21,10 @@ use Rattle.vreg_groups.specs.Legality.{eew_bits, emul_eighths, group_count, coun
 
 -- a group has a register at least
 pub group_count_positive : (t : Vtype) (e : Eew) → 0 < group_count t e
-unfolding group_count
 group_count_positive t e = omega arith
 
 -- an operand covers a register at least
 pub count_of_positive : (vtype : Option Vtype) (extent : Extent) → 0 < count_of vtype extent
-unfolding count_of
 count_of_positive (Some t) (Group e) = group_count_positive t e
 count_of_positive None (Group e) = omega arith
 count_of_positive (Some t) (Single e) = omega arith
@@ -92,18 +90,15 @@ ends_within first c h whole multiple below =
     ]
 
 pub group_ends : (t : Vtype) (e : Eew) (first : ℕ) → first < 32 → first % group_count t e ≡ 0 → first + group_count t e ≤ 32
-unfolding group_count emul_eighths
 group_ends t e first below multiple =
     let whole = (and_parts _ _ (fits t.sew t.lmul e)).0 in
     ends_within first (group_count t e) (group_count_positive t e) ((Decides-eqb (32 % group_count t e) 0).0 whole) multiple below
 
 pub group_small : (t : Vtype) (e : Eew) → emul_eighths t e ≤ 64 → group_count t e ≤ 8
-unfolding group_count
 group_small t e h = omega arith
 
 -- SEW * vl is at most LMUL * VLEN, both counted in eighths
 body_fits : (t : Vtype) (vlenb vl : ℕ) → vl ≤ vlmax_of vlenb t → bits_of_width t.sew * vl ≤ eighths_of t.lmul * vlenb
-unfolding vlmax_of
 body_fits t vlenb vl h =
     let sew = bits_of_width t.sew in
     let a : sew * vl ≤ sew * (eighths_of t.lmul * vlenb / sew) = mul-le-mul_left sew h in
@@ -125,7 +120,6 @@ room_of s b e c vlenb vl positive covers body =
 -- vl elements fit in the registers of a group
 pub group_room : (t : Vtype) (e : Eew) (vlenb vl : ℕ) → vl ≤ vlmax_of vlenb t →
     eew_bits t.sew e * vl ≤ 8 * (group_count t e * vlenb)
-unfolding group_count emul_eighths
 group_room t e vlenb vl h =
     room_of (bits_of_width t.sew) (eew_bits t.sew e) (eighths_of t.lmul) (group_count t e) vlenb vl (width_positive t.sew)
     (leb-true _ _ (and_parts _ _ (fits t.sew t.lmul e)).1) (body_fits t vlenb vl h)

@@ -25,24 +25,24 @@ no_config = record { vtype = vill; vl = 0 }
 -- the new vtype and vl for a supported request: `bits` are the requested ones, `before` what the
 -- old bits stand for, and `vlmax` is the requested VLMAX. The length is kept only where VLMAX
 -- stays the same.
-unfoldable pub supported_vset : ℕ → Vconfig → Option Vtype → Avl → ℕ → ℕ → Vconfig
+abbrev pub supported_vset : ℕ → Vconfig → Option Vtype → Avl → ℕ → ℕ → Vconfig
 supported_vset vlenb config (Some before) Keep bits vlmax =
     if vlmax_of vlenb before == vlmax then record { vtype = bits; vl = config.vl } else no_config
 supported_vset vlenb config None Keep bits vlmax = no_config
 supported_vset vlenb config before Greatest bits vlmax = record { vtype = bits; vl = vlmax }
 supported_vset vlenb config before (Of avl) bits vlmax = record { vtype = bits; vl = min avl vlmax }
 
-unfoldable pub requested_vset : ℕ → Vconfig → Avl → ℕ → Option Vtype → Vconfig
+abbrev pub requested_vset : ℕ → Vconfig → Avl → ℕ → Option Vtype → Vconfig
 requested_vset vlenb config avl bits None = no_config
 requested_vset vlenb config avl bits (Some t) =
     supported_vset vlenb config (vtype_of config.vtype) avl bits (vlmax_of vlenb t)
 
 -- vtype and vl after a vset instruction that requests `bits`
-unfoldable pub vset_of : ℕ → Vconfig → Avl → ℕ → Vconfig
+abbrev pub vset_of : ℕ → Vconfig → Avl → ℕ → Vconfig
 vset_of vlenb config avl bits = requested_vset vlenb config avl bits (vtype_of bits)
 
 -- what vtype and vl can be: vill and 0, or a supported type and at most its VLMAX
-unfoldable pub IsConfig : ℕ → Vconfig → Type 0
+abbrev pub IsConfig : ℕ → Vconfig → Type 0
 IsConfig vlenb config =
     MatchOption (vtype_of config.vtype) (config ≡ no_config) (λ t. config.vl ≤ vlmax_of vlenb t)
 

@@ -19,14 +19,14 @@ eighths_of Four = 32
 eighths_of Eight = 64
 
 -- the field vsew: SEW 64 and the reserved values are not supported
-unfoldable pub sew_of : ℕ → Option Width
+abbrev pub sew_of : ℕ → Option Width
 sew_of vsew =
     if vsew == 0 then Some W8
     else (if vsew == 1 then Some W16
     else (if vsew == 2 then Some W32 else None))
 
 -- the field vlmul, a signed power of two: LMUL 1/8 and the reserved value are not supported
-unfoldable pub lmul_of : ℕ → Option Lmul
+abbrev pub lmul_of : ℕ → Option Lmul
 lmul_of vlmul =
     if vlmul == 0 then Some One
     else (if vlmul == 1 then Some Two
@@ -36,12 +36,12 @@ lmul_of vlmul =
     else (if vlmul == 7 then Some Half else None)))))
 
 -- SEW is at most LMUL * ELEN, where ELEN is 32
-unfoldable pub is_supported : Width → Lmul → Bool
+abbrev pub is_supported : Width → Lmul → Bool
 is_supported sew lmul = nat_le (8 * bits_of_width sew) (32 * eighths_of lmul)
 
 -- the supported type that the bits of vtype stand for: vma is bit 7, vta bit 6, vsew bits
 -- 5:3, vlmul bits 2:0
-unfoldable pub vtype_of : ℕ → Option Vtype
+abbrev pub vtype_of : ℕ → Option Vtype
 vtype_of bits =
     if nat_le 256 bits then None else
     option_and_then (λ sew. option_and_then (λ lmul.
@@ -58,5 +58,5 @@ type_in (Some t) = t
 type_in None = record { sew = W8; lmul = One; vta = false; vma = false }
 
 -- VLMAX = LMUL * VLEN / SEW, where VLEN is 8 * vlenb
-unfoldable pub vlmax_of : ℕ → Vtype → ℕ
+abbrev pub vlmax_of : ℕ → Vtype → ℕ
 vlmax_of vlenb t = eighths_of t.lmul * vlenb / bits_of_width t.sew

@@ -10,7 +10,7 @@ use Rattle.std.specs.Int.{bytes_low_first}
 use Rattle.byteorder.specs.Endian.{little_from}
 use Rattle.byteorder.specs.Numbers.{little_from-lt, little_number-reads_back}
 use Rattle.vreg_groups.specs.Elements.{number_at, bytes_of, element_at, bit_of, bit_at, number_of_bits}
-use Rattle.vreg_groups.specs.NewElements.{filled, new_element, replaced, new_bytes, new_mask_byte, new_mask_bytes}
+use Rattle.vreg_groups.specs.NewElements.{filled, new_element, replaced, new_bytes, new_mask_bytes}
 use Rattle.vreg_groups.specs.declared.policies.Agnostic.{Agnostic}
 use Rattle.vreg_groups.specs.declared.policies.Agnostic.TheVariants.{Keep, Ones}
 use Rattle.vreg_groups.specs.declared.policies.Policy.{Policy}
@@ -39,7 +39,6 @@ get_or-pieces f size n i j h lt within =
 pub get_or-replaced : (size at n i j : ℕ) (f : ℕ → List ℕ) (bytes : List ℕ) → ((k : ℕ) → length (f k) ≡ size) →
     at + size * n ≤ length bytes → i < n → j < size →
     get_or (replaced size at n f bytes) (at + (size * i + j)) 0 ≡ get_or (f i) j 0
-unfolding replaced
 get_or-replaced size at n i j f bytes h room lt within =
     let before = take at bytes in
     let pieces = flat_map f (range_with_len 0 n) in
@@ -56,7 +55,6 @@ get_or-replaced size at n i j f bytes h room lt within =
 pub get_or-replaced_outside : (size at n k : ℕ) (f : ℕ → List ℕ) (bytes : List ℕ) → ((k : ℕ) → length (f k) ≡ size) →
     at + size * n ≤ length bytes → (k < at) ⊎ (at + size * n ≤ k) →
     get_or (replaced size at n f bytes) k 0 ≡ get_or bytes k 0
-unfolding replaced
 get_or-replaced_outside size at n k f bytes h room outside =
     let before = take at bytes in
     let pieces = flat_map f (range_with_len 0 n) in
@@ -76,13 +74,11 @@ get_or-replaced_outside size at n k f bytes h room outside =
 
 -- a number that n bytes hold is read back
 pub number_at-bytes_of : (n v : ℕ) → v < 256 ^ n → number_at n 0 (bytes_of n v) ≡ v
-unfolding number_at bytes_of
 number_at-bytes_of n v h =
     ap (little_from 0 n) (sym (append-nil (bytes_low_first 0 n v))) ∙ little_number-reads_back n v [] h
 
 -- n bytes hold a number below 256 to the power n
 pub number_at-lt : (n at : ℕ) (bytes : List ℕ) → ((i : ℕ) → get_or bytes i 0 < 256) → number_at n at bytes < 256 ^ n
-unfolding number_at
 number_at-lt n at bytes h = little_from-lt at n bytes h
 
 if-lt : (b : Bool) (x y bound : ℕ) → x < bound → y < bound → (if b then x else y) < bound
@@ -103,7 +99,6 @@ result-lt results i old bound h all =
 -- a new element fits where the results, the old element and the one of ones do
 pub new_element-lt : (policy : Policy) (ones : ℕ) (results : List ℕ) (active : List Bool) (i old bound : ℕ) →
     ones < bound → old < bound → All (λ r. r < bound) results → new_element policy ones results active i old < bound
-unfolding new_element
 new_element-lt policy ones results active i old bound p q all =
     let inactive = filled-lt policy.inactive ones old bound p q in
     let body = if-lt (get_or active i false) (get_or results i old) (filled policy.inactive ones old) bound
@@ -118,7 +113,6 @@ pub element_after : (size at n : ℕ) (policy : Policy) (results : List ℕ) (ac
     at + size * n ≤ length bytes → i < n → ((k : ℕ) → get_or bytes k 0 < 256) → All (λ r. r < 256 ^ size) results →
     element_at size at (replaced size at n (new_bytes size at policy results active bytes) bytes) i
     ≡ new_element policy (256 ^ size - 1) results active i (element_at size at bytes i)
-unfolding element_at new_bytes
 element_after size at n policy results active bytes i room lt small all =
     let piece = new_bytes size at policy results active bytes in
     let sizes : (j : ℕ) → length (piece j) ≡ size = λ j. length-bytes_of size _ in
@@ -188,12 +182,10 @@ one-is true n e = ap (λ m. m == 1) e
 one-is false n e = ap (λ m. m == 1) e
 
 bit_of-number_of_bits : (n k : ℕ) (f : ℕ → Bool) → k < n → bit_of (number_of_bits n f) k ≡ f k
-unfolding bit_of
 bit_of-number_of_bits n k f lt = one-is (f k) (number_of_bits n f / 2 ^ k % 2) (bit_of_bits n k f lt)
 
 pub length-new_mask_bytes : (at : ℕ) (policy : Policy) (results active : List Bool) (bytes : List ℕ) (j : ℕ) →
     length (new_mask_bytes at policy results active bytes j) ≡ 1
-unfolding new_mask_bytes
 length-new_mask_bytes at policy results active bytes j = refl
 
 -- a bit of the mask that was written
@@ -201,7 +193,6 @@ pub mask_bit_after : (at n : ℕ) (policy : Policy) (results active : List Bool)
     at + n ≤ length bytes → i < 8 * n →
     bit_at at (replaced 1 at n (new_mask_bytes at policy results active bytes) bytes) i
     ≡ new_element policy true results active i (bit_at at bytes i)
-unfolding bit_at new_mask_bytes new_mask_byte
 mask_bit_after at n policy results active bytes i room lt =
     let piece = new_mask_bytes at policy results active bytes in
     let j = i / 8 in

@@ -11,7 +11,6 @@ use crate::elements::Element;
 use crate::policies::{Agnostic, Policy, body_element, new_element};
 
 /// Reads as many elements as `out` has room for, from place `at` on.
-#[tactic(auto, unfolding(crate::specs::Elements::element_at))]
 pub(crate) fn read_elements<E: Element>(bytes: &[u8], at: usize, out: &mut [E])
     requires { at + E.SIZE * length out.old ≤ length bytes.now }
     ensures { map E.number out.new ≡ map (element_at E.SIZE at bytes.now)
@@ -40,7 +39,6 @@ pub(crate) fn read_bits(bytes: &[u8], at: usize, out: &mut [bool])
 }
 
 /// Mask bit `i` of the bytes from place `at` on.
-#[tactic(auto, unfolding(crate::specs::Elements::bit_at))]
 pub(crate) fn bit_at(bytes: &[u8], at: usize, i: usize) -> bool
     requires { 8 * at + i < 8 * length bytes.now }
     ensures { result ≡ bit_at at bytes.now i }
@@ -48,7 +46,6 @@ pub(crate) fn bit_at(bytes: &[u8], at: usize, i: usize) -> bool
     bit_of(bytes[at + i / 8], i % 8)
 }
 
-#[tactic(auto, unfolding(crate::specs::Elements::bit_of))]
 fn bit_of(byte: u8, k: usize) -> bool
     requires { k < 8 }
     ensures { result ≡ bit_of byte k }
@@ -112,7 +109,6 @@ pub(crate) fn write_all_elements<E: Element>(
 }
 
 /// The same by the bytes of the results, where the group ends at place `end`.
-#[tactic(auto, unfolding(crate::specs::NewElements::bytes_written))]
 pub(crate) fn write_all_bytes(
     bytes: &mut [u8],
     at: usize,
@@ -130,7 +126,6 @@ pub(crate) fn write_all_bytes(
 }
 
 /// Puts bytes over others, from place `at` on.
-#[tactic(auto, unfolding(crate::specs::NewElements::overlaid))]
 pub(crate) fn overlay(bytes: &mut [u8], at: usize, others: &[u8])
     requires { at + length others.now ≤ length bytes.old }
     ensures { bytes.new ≡ overlaid at others.now bytes.old }
@@ -195,7 +190,6 @@ pub(crate) fn put_elements<E: Element>(bytes: &mut [u8], at: usize, values: &[E]
 }
 
 /// What becomes of `n` bytes that no result is written to, from place `at` on.
-#[tactic(auto, unfolding(crate::specs::NewElements::overlaid))]
 pub(crate) fn fill_if(bytes: &mut [u8], at: usize, n: usize, agnostic: Agnostic)
     requires { at + n ≤ length bytes.old }
     ensures { bytes.new ≡ filled agnostic (overlaid at (replicate n 0xff) bytes.old) bytes.old }
@@ -225,7 +219,7 @@ pub(crate) fn write_bits(
     }
 }
 
-#[tactic(auto, unfolding(crate::specs::NewElements::new_mask_byte, crate::specs::Elements::number_of_bits))]
+#[tactic(auto, unfolding(crate::specs::Elements::number_of_bits))]
 fn new_mask_byte(policy: Policy, values: &[bool], active: &[bool], j: usize, old: u8) -> u8
     requires { j < 64 }
     ensures { result ≡ new_mask_byte policy values.now active.now j old }
@@ -243,7 +237,7 @@ fn new_mask_byte(policy: Policy, values: &[bool], active: &[bool], j: usize, old
 }
 
 /// The same where all eight bits are of the body.
-#[tactic(auto, unfolding(crate::specs::NewElements::new_mask_byte, crate::specs::Elements::number_of_bits))]
+#[tactic(auto, unfolding(crate::specs::Elements::number_of_bits))]
 fn body_mask_byte(policy: Policy, values: &[bool], active: &[bool], j: usize, old: u8) -> u8
     requires few { j < 64 }
     requires results { 8 * j + 8 ≤ length values.now }
@@ -261,7 +255,6 @@ fn body_mask_byte(policy: Policy, values: &[bool], active: &[bool], j: usize, ol
 
 /// What bit `i` of a mask becomes, where it is one of the body.
 #[inline]
-#[tactic(auto, unfolding(crate::specs::NewElements::new_element))]
 fn body_bit(policy: Policy, values: &[bool], active: &[bool], i: usize, old: bool) -> bool
     requires result { i < length values.now }
     requires told { i < length active.now }

@@ -43,12 +43,10 @@ impl Element for u8 {
 
     ghost sizes = { inl refl };
 
-    #[tactic(auto, unfolding(crate::specs::Elements::number_at))]
     fn get(bytes: &[u8], at: usize) -> u8 {
         bytes[at]
     }
 
-    #[tactic(auto, unfolding(crate::specs::Elements::bytes_of))]
     fn put(self, bytes: &mut [u8], at: usize) {
         bytes[at] = self;
     }
@@ -69,12 +67,10 @@ impl Element for u16 {
 
     ghost sizes = { inr (inl refl) };
 
-    #[tactic(auto, unfolding(crate::specs::Elements::number_at))]
     fn get(bytes: &[u8], at: usize) -> u16 {
         u16::from_le_bytes([bytes[at], bytes[at + 1]])
     }
 
-    #[tactic(auto, unfolding(crate::specs::Elements::bytes_of))]
     fn put(self, bytes: &mut [u8], at: usize) {
         bytes[at..at + 2].copy_from_slice(&self.to_le_bytes());
     }
@@ -95,12 +91,10 @@ impl Element for u32 {
 
     ghost sizes = { inr (inr refl) };
 
-    #[tactic(auto, unfolding(crate::specs::Elements::number_at))]
     fn get(bytes: &[u8], at: usize) -> u32 {
         u32::from_le_bytes([bytes[at], bytes[at + 1], bytes[at + 2], bytes[at + 3]])
     }
 
-    #[tactic(auto, unfolding(crate::specs::Elements::bytes_of))]
     fn put(self, bytes: &mut [u8], at: usize) {
         bytes[at..at + 4].copy_from_slice(&self.to_le_bytes());
     }

@@ -44,7 +44,6 @@ impl<const VLENB: usize> Model for Group<VLENB> {
 impl<const VLENB: usize> Group<VLENB> {
     /// The group that begins at `first`, of elements of this width, under a vector type and length: that of an operand
     /// which is inside the registers, as those of a legal instruction are.
-    #[tactic(auto, unfolding(crate::specs::Legality::count_of))]
     pub fn new(vtype: &Vtype, vl: usize, first: Reg, eew: Eew) -> Group<VLENB>
         requires vlenb { IsVlenb VLENB }
         requires length { vl ≤ vlmax_of VLENB vtype.now }
@@ -109,7 +108,6 @@ impl<const VLENB: usize> Group<VLENB> {
     }
 
     /// Reads the elements of the body.
-    #[tactic(auto, unfolding(crate::specs::Group::body_of))]
     pub fn read<E: Element>(&self, registers: &VregFile<VLENB>, out: &mut [E])
         requires width { E.SIZE ≡ self.now.bytes }
         requires length { length out.old ≡ self.now.vl }
@@ -120,7 +118,6 @@ impl<const VLENB: usize> Group<VLENB> {
     }
 
     /// Writes results to the group: the body has as many elements as `results`, and what follows it is the tail.
-    #[tactic(auto, unfolding(crate::specs::Group::written))]
     pub fn write<E: Element>(
         &self,
         registers: &mut VregFile<VLENB>,
@@ -136,7 +133,6 @@ impl<const VLENB: usize> Group<VLENB> {
     }
 
     /// Writes results to the group, all of them active: the instruction is not masked.
-    #[tactic(auto, unfolding(crate::specs::Group::written))]
     pub fn write_all<E: Element>(
         &self,
         registers: &mut VregFile<VLENB>,
@@ -151,7 +147,6 @@ impl<const VLENB: usize> Group<VLENB> {
     }
 
     /// The bytes of the elements of the body: from the group's first byte on.
-    #[tactic(auto, unfolding(crate::specs::Group::body_bytes))]
     pub fn body_bytes<'a>(&self, registers: &'a VregFile<VLENB>) -> &'a [u8]
         ensures meaning { result.now ≡ body_bytes VLENB self.now registers.now }
         ensures size { length result.now ≡ self.now.bytes * self.now.vl }

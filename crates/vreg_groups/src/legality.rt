@@ -29,7 +29,6 @@ use rv_decode::{
 /// The rules are those of the standard on EEW and EMUL, on the alignment of groups, on what a destination may overlap,
 /// and on v0 ("Vector Operands", "Vector Masking"). With vill set, a vector instruction is legal only where all its
 /// operands are whole registers. An instruction without vector operands always is.
-#[tactic(auto, unfolding(crate::specs::Legality::is_legal))]
 pub fn legal(config: &Vconfig, insn: &Insn) -> bool
     ensures { result ≡ is_legal config.now insn.now }
 {
@@ -39,7 +38,6 @@ pub fn legal(config: &Vconfig, insn: &Insn) -> bool
 /// The vector type that a legal instruction works under, or `None` where it is not legal.
 ///
 /// Its operands are inside the registers, and vl fits the type.
-#[tactic(auto, unfolding(crate::specs::Legality::is_legal))]
 pub fn legal_type(config: &Vconfig, insn: &Insn) -> Option<Vtype>
     ensures meaning { result ≡ (if is_legal config.now insn.now
         then Some (type_in (vtype_of config.now.vtype)) else None) }
@@ -56,7 +54,7 @@ pub fn legal_type(config: &Vconfig, insn: &Insn) -> Option<Vtype>
 }
 
 /// The same of a vector load or store.
-#[tactic(auto, unfolding(crate::specs::Legality::is_legal, rv_decode::specs::Needs::needs_of))]
+#[tactic(auto, unfolding(rv_decode::specs::Needs::needs_of))]
 pub fn legal_access_type(config: &Vconfig, access: &VMem) -> Option<Vtype>
     ensures meaning { result ≡ (if is_legal config.now (Insn.VMem access.now)
         then Some (type_in (vtype_of config.now.vtype)) else None) }
@@ -73,7 +71,7 @@ pub fn legal_access_type(config: &Vconfig, access: &VMem) -> Option<Vtype>
 // Whether an instruction is one of the most common, and legal. Its operands, if it has any, have elements of one width, so
 // how they overlap does not matter, and this is told without a look at each pair.
 #[inline(always)]
-#[tactic(auto, unfolding(rv_decode::specs::Needs::needs_of, rv_decode::specs::Needs::needs_of_arith, crate::specs::Legality::are_operands_legal, crate::specs::Legality::is_destination_legal, crate::specs::Legality::is_common, crate::specs::Legality::is_in_a_row))]
+#[tactic(auto, unfolding(rv_decode::specs::Needs::needs_of, rv_decode::specs::Needs::needs_of_arith))]
 fn is_plain(vtype: Option<Vtype>, insn: &Insn) -> bool
     ensures meaning { result ≡ (is_some vtype && is_common insn.now
         && are_operands_legal vtype (needs_of insn.now)) }
@@ -100,7 +98,7 @@ fn is_plain(vtype: Option<Vtype>, insn: &Insn) -> bool
 
 // Whether an operation on groups of SEW is legal.
 #[inline(always)]
-#[tactic(auto, using(crate::proofs::Plain::same_width), unfolding(crate::specs::Legality::are_operands_legal, crate::specs::Legality::is_destination_legal, crate::specs::Legality::is_source_legal))]
+#[tactic(auto, using(crate::proofs::Plain::same_width))]
 fn is_plain_operation(vtype: &Vtype, vd: Reg, vs2: Reg, b: &Source, masked: bool) -> bool
     ensures meaning { result ≡ are_operands_legal (Some vtype.now) (operands (group Same vd)
         (group Same vs2) (second b.now) masked Sharing.ByWidth) }
@@ -139,7 +137,7 @@ fn is_second_legal(vtype: &Vtype, b: &Source) -> bool
 
 // Whether a load or store is one of elements that lie one after another, and legal.
 #[inline(always)]
-#[tactic(auto, unfolding(rv_decode::specs::Needs::needs_of_access, rv_decode::specs::Needs::needs_of_place, rv_decode::specs::Needs::access_operands, crate::specs::Legality::is_in_a_row, crate::specs::Legality::are_operands_legal, crate::specs::Legality::is_destination_legal, crate::specs::Legality::is_source_legal))]
+#[tactic(auto, unfolding(rv_decode::specs::Needs::needs_of_access, rv_decode::specs::Needs::needs_of_place, rv_decode::specs::Needs::access_operands))]
 fn is_plain_access(vtype: &Vtype, access: &VMem) -> bool
     ensures meaning { result ≡ (is_in_a_row access.now.place && are_operands_legal (Some vtype.now)
         (needs_of_access access.now)) }
@@ -166,7 +164,6 @@ fn is_plain_access(vtype: &Vtype, access: &VMem) -> bool
 }
 
 #[inline(never)]
-#[tactic(auto, unfolding(crate::specs::Legality::are_operands_legal))]
 pub(crate) fn are_operands_legal(vtype: Option<Vtype>, operands: &Operands) -> bool
     ensures meaning { result ≡ are_operands_legal vtype operands.now }
     ensures inside { result ≡ true → AreAllInside (type_in vtype) operands.now }
@@ -189,7 +186,6 @@ fn is_present_legal(vtype: Option<Vtype>, operand: &Option<Operand>) -> bool
 
 // The rules on an operand by itself.
 #[inline(always)]
-#[tactic(auto, unfolding(crate::specs::Legality::is_operand_legal, crate::specs::Legality::count_of, crate::specs::Legality::element_bits))]
 fn is_operand_legal(vtype: Option<Vtype>, operand: &Operand) -> bool
     ensures meaning { result ≡ is_operand_legal vtype operand.now.extent operand.now.first }
     ensures inside { result ≡ true → IsInside (type_in vtype) operand.now }
@@ -241,7 +237,6 @@ fn is_multiple(first: usize, count: usize) -> bool
     }
 }
 
-#[tactic(auto, unfolding(crate::specs::Legality::is_destination_legal))]
 fn is_destination_legal(vtype: Option<Vtype>, operands: &Operands) -> bool
     ensures { result ≡ is_destination_legal vtype operands.now operands.now.destination }
 {
@@ -255,7 +250,6 @@ fn is_destination_legal(vtype: Option<Vtype>, operands: &Operands) -> bool
     }
 }
 
-#[tactic(auto, unfolding(crate::specs::Legality::is_source_legal))]
 fn is_source_legal(
     vtype: Option<Vtype>,
     sharing: Sharing,
@@ -271,7 +265,6 @@ fn is_source_legal(
 }
 
 // The rules on a destination and a source.
-#[tactic(auto, unfolding(crate::specs::Legality::is_pair_legal))]
 fn is_pair_legal(
     vtype: Option<Vtype>,
     sharing: Sharing,
@@ -296,7 +289,6 @@ fn is_grouped(extent: Extent) -> bool
 }
 
 // No register belongs to both.
-#[tactic(auto, unfolding(crate::specs::Legality::registers_of))]
 fn are_apart(vtype: Option<Vtype>, a: &Operand, b: &Operand) -> bool
     ensures { result ≡ are_apart (registers_of vtype a.now) (registers_of vtype b.now) }
 {
@@ -327,7 +319,6 @@ fn end_of(vtype: Option<Vtype>, operand: &Operand) -> usize
     usize::from(operand.first.number()) + count_of(vtype, operand.extent)
 }
 
-#[tactic(auto, unfolding(crate::specs::Legality::is_overlap_legal))]
 fn is_overlap_legal(
     vtype: Option<Vtype>,
     sharing: Sharing,
@@ -346,7 +337,6 @@ fn is_overlap_legal(
 }
 
 // Whether widths, and where the groups begin and end, let a destination overlap a source.
-#[tactic(auto, unfolding(crate::specs::Legality::may_overlap))]
 fn may_overlap(vtype: &Vtype, destination: &Operand, source: &Operand) -> bool
     ensures { result ≡ may_overlap vtype.now destination.now source.now }
 {
@@ -359,7 +349,6 @@ fn may_overlap(vtype: &Vtype, destination: &Operand, source: &Operand) -> bool
             && end_of(Some(*vtype), destination) == end_of(Some(*vtype), source)
 }
 
-#[tactic(auto, unfolding(crate::specs::Legality::is_emul_whole))]
 fn is_emul_whole(vtype: &Vtype, extent: Extent) -> bool
     ensures { result ≡ is_emul_whole vtype.now extent }
 {
@@ -371,7 +360,6 @@ fn is_emul_whole(vtype: &Vtype, extent: Extent) -> bool
 
 // Whether a masked instruction leaves its mask alone.
 #[inline(always)]
-#[tactic(auto, unfolding(crate::specs::Legality::is_mask_legal))]
 fn is_mask_legal(masked: bool, sharing: Sharing, destination: &Operand) -> bool
     ensures { (vtype : Option Vtype) → result ≡ is_mask_legal vtype masked sharing destination.now }
 {
@@ -380,7 +368,6 @@ fn is_mask_legal(masked: bool, sharing: Sharing, destination: &Operand) -> bool
 
 // Whether an operand covers v0.
 #[inline(always)]
-#[tactic(auto, unfolding(crate::specs::Legality::registers_of))]
 fn has_v0(operand: &Operand) -> bool
     ensures { (vtype : Option Vtype) → result ≡ is_among 0 (registers_of vtype operand.now) }
 {
@@ -388,7 +375,6 @@ fn has_v0(operand: &Operand) -> bool
 }
 
 #[inline(always)]
-#[tactic(auto, unfolding(crate::specs::Legality::keeps_mask))]
 fn keeps_mask(sharing: Sharing, extent: Extent) -> bool
     ensures { result ≡ keeps_mask sharing extent }
 {
@@ -402,7 +388,6 @@ fn keeps_mask(sharing: Sharing, extent: Extent) -> bool
 }
 
 // How many registers an operand covers.
-#[tactic(auto, unfolding(crate::specs::Legality::count_of))]
 fn count_of(vtype: Option<Vtype>, extent: Extent) -> usize
     ensures meaning { result ≡ count_of vtype extent }
     ensures positive { 0 < result }
@@ -434,7 +419,6 @@ pub fn whole_count(count: Count) -> usize
 }
 
 #[inline(always)]
-#[tactic(auto, unfolding(crate::specs::Legality::is_width))]
 fn is_width(bits: usize) -> bool
     ensures meaning { result ≡ is_width bits }
     ensures bound { result ≡ true → (8 ≤ bits) × (bits ≤ 32) }
@@ -443,7 +427,6 @@ fn is_width(bits: usize) -> bool
 }
 
 // The width of an operand's elements, in bits.
-#[tactic(auto, unfolding(crate::specs::Legality::element_bits))]
 fn element_bits(vtype: &Vtype, extent: Extent) -> usize
     ensures { result ≡ element_bits vtype.now extent }
 {

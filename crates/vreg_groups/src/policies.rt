@@ -23,7 +23,6 @@ pub struct Policy {
 impl Policy {
     /// The policy of an instruction under `vtype`: its agnostic elements become what the setting of the run says, and
     /// the others keep their values ("Vector Tail Agnostic and Vector Mask Agnostic").
-    #[tactic(auto, unfolding(crate::specs::NewElements::policy_of))]
     pub fn of(agnostic: Agnostic, vtype: &Vtype) -> Policy
         ensures { result ≡ policy_of agnostic vtype.now }
     {
@@ -34,7 +33,6 @@ impl Policy {
     }
 
     /// The policy of an instruction under `vtype` whose destination is a mask: its tail is always agnostic.
-    #[tactic(auto, unfolding(crate::specs::NewElements::mask_policy_of))]
     pub fn of_mask(agnostic: Agnostic, vtype: &Vtype) -> Policy
         ensures { result ≡ mask_policy_of agnostic vtype.now }
     {
@@ -58,7 +56,6 @@ fn agnostic_if(is_agnostic: bool, agnostic: Agnostic) -> Agnostic
 /// What element `i` of a destination becomes, where `old` is its value and `ones` has all bits set.
 ///
 /// The body has as many elements as there are results. An active one becomes its result, and the others are inactive.
-#[tactic(auto, unfolding(crate::specs::NewElements::new_element))]
 pub(crate) fn new_element<T: Copy>(
     policy: Policy,
     ones: T,

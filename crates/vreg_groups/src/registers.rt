@@ -72,7 +72,6 @@ impl<const VLENB: usize> VregFile<VLENB> {
     }
 
     /// Mask bit `i` of a register ("Mask Register Layout").
-    #[tactic(auto, unfolding(crate::specs::Elements::mask_bit))]
     pub fn bit(&self, register: Reg, i: usize) -> bool
         requires { i < 8 * VLENB }
         ensures meaning { result ≡ mask_bit VLENB register self.now i }
@@ -85,7 +84,6 @@ impl<const VLENB: usize> VregFile<VLENB> {
     ///
     /// The registers of a group lie end to end, and elements are little-endian ("Mapping of Vector Elements to Vector
     /// Register State").
-    #[tactic(auto, unfolding(crate::specs::Elements::elements_of))]
     pub fn read_group<E: Element>(&self, first: Reg, out: &mut [E])
         requires { first * VLENB + E.SIZE * length out.old ≤ 32 * VLENB }
         ensures meaning { map E.number out.new ≡ elements_of VLENB E.SIZE first (length out.old)
@@ -96,7 +94,6 @@ impl<const VLENB: usize> VregFile<VLENB> {
     }
 
     /// Reads as many mask bits as `out` has room for.
-    #[tactic(auto, unfolding(crate::specs::Elements::mask_bits))]
     pub fn read_mask(&self, register: Reg, out: &mut [bool])
         requires { length out.old ≤ 8 * VLENB }
         ensures meaning { out.new ≡ mask_bits VLENB register (length out.old) self.now }
@@ -107,7 +104,6 @@ impl<const VLENB: usize> VregFile<VLENB> {
 
     /// Tells which elements are active, as many as `active` has room for: those whose bit of v0 is set where the
     /// instruction is masked, else all.
-    #[tactic(auto, unfolding(crate::specs::Elements::active_of))]
     pub fn read_active(&self, masked: bool, active: &mut [bool])
         requires { length active.old ≤ 8 * VLENB }
         ensures meaning { active.new ≡ active_of VLENB masked (length active.old) self.now }
@@ -126,7 +122,6 @@ impl<const VLENB: usize> VregFile<VLENB> {
     /// The body has as many elements as `values`: an active element becomes its value, and the others are inactive. All
     /// later elements, to the end of the last register, are the tail. `policy` says what inactive elements and the
     /// tail become. Where vl is 0, no result is written at all, and the caller makes no call.
-    #[tactic(auto, unfolding(crate::specs::NewElements::write_of))]
     pub fn write_group<E: Element>(
         &mut self,
         first: Reg,
@@ -153,7 +148,6 @@ impl<const VLENB: usize> VregFile<VLENB> {
     }
 
     /// The same where every result is active: the instruction is not masked.
-    #[tactic(auto, unfolding(crate::specs::NewElements::write_of))]
     pub fn write_group_all<E: Element>(
         &mut self,
         first: Reg,
@@ -235,7 +229,6 @@ impl<const VLENB: usize> VregFile<VLENB> {
 
     /// Writes a mask to a register: bit `i` becomes result `i` where it is below the number of results and active. Its
     /// tail goes to the last bit of the register.
-    #[tactic(auto, unfolding(crate::specs::NewElements::mask_write_of))]
     pub fn write_mask(&mut self, register: Reg, values: &[bool], active: &[bool], policy: Policy)
         ensures meaning { self.new ≡ mask_write_of VLENB register policy values.now active.now
             self.old }
@@ -265,7 +258,6 @@ fn place_of(register: Reg, vlenb: usize) -> usize
 
 impl<const VLENB: usize> VregFile<VLENB> {
     /// Element 0 of the group that begins at `register`.
-    #[tactic(auto, unfolding(crate::specs::Elements::element_at))]
     pub fn first_element<E: Element>(&self, register: Reg) -> E
         ensures meaning { E.number result ≡ element_at E.SIZE (register * VLENB) self.now 0 }
         ensures shape { length self.now ≡ 32 * VLENB }
@@ -274,7 +266,6 @@ impl<const VLENB: usize> VregFile<VLENB> {
     }
 
     /// Copies `count` registers, from `source` on, to those from `first` on ("Whole Vector Register Move").
-    #[tactic(auto, unfolding(crate::specs::Copies::copied))]
     pub fn copy_registers(&mut self, first: Reg, source: Reg, count: usize)
         requires first { first + count ≤ 32 }
         requires source { source + count ≤ 32 }

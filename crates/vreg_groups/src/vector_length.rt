@@ -41,7 +41,6 @@ pub struct Vconfig {
 
 impl Vconfig {
     /// vtype with vill alone, and the length 0: where a run starts, and what a request that is not supported sets.
-    #[tactic(auto, unfolding(crate::specs::VectorLength::IsConfig, crate::specs::VectorType::vtype_of))]
     pub fn none() -> Vconfig
         ensures meaning { result ≡ no_config }
         ensures config { (vlenb : ℕ) → IsConfig vlenb result }
@@ -53,7 +52,6 @@ impl Vconfig {
     }
 
     /// The vector type that vtype stands for, or `None` where vill is set.
-    #[tactic(auto, unfolding(crate::specs::VectorLength::IsConfig))]
     pub fn vector_type(&self) -> Option<Vtype>
         ensures meaning { result ≡ vtype_of self.now.vtype }
         ensures length { (vlenb : ℕ) → IsVlenb vlenb → IsConfig vlenb self.now → IsLength vlenb
@@ -79,7 +77,6 @@ pub enum Avl {
 /// The new length is the lesser of the application vector length and VLMAX. A request that is not supported, and one
 /// that keeps the length while VLMAX changes or vill is set, sets vill, clears the rest of vtype and sets vl to 0
 /// ("Vector Configuration-Setting Instructions").
-#[tactic(auto, unfolding(crate::specs::VectorLength::vset_of, crate::specs::VectorLength::requested_vset, crate::specs::VectorLength::supported_vset, crate::specs::VectorLength::IsConfig))]
 pub fn vset(vlenb: usize, config: Vconfig, avl: Avl, bits: u32) -> Vconfig
     requires { IsVlenb vlenb }
     ensures meaning { result ≡ vset_of vlenb config avl bits }
@@ -93,7 +90,6 @@ pub fn vset(vlenb: usize, config: Vconfig, avl: Avl, bits: u32) -> Vconfig
     }
 }
 
-#[tactic(auto, unfolding(crate::specs::VectorLength::supported_vset))]
 fn supported_vset(vlenb: usize, config: Vconfig, avl: Avl, bits: u32, vlmax: u32) -> Vconfig
     requires { IsVlenb vlenb }
     ensures meaning { result ≡ supported_vset vlenb config (vtype_of config.vtype) avl bits vlmax }

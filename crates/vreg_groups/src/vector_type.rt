@@ -43,7 +43,6 @@ impl Vtype {
     /// Not supported are SEW above 32, LMUL 1/8, a fractional LMUL with SEW above LMUL * 32, the reserved values, and
     /// any of the bits 31 to 8 ("Vector Type Register, vtype").
     #[inline(always)]
-    #[tactic(auto, unfolding(crate::specs::VectorType::vtype_of))]
     pub fn from_bits(bits: u32) -> Option<Vtype>
         ensures meaning { result ≡ vtype_of bits }
     {
@@ -64,7 +63,7 @@ impl Vtype {
     }
 
     /// The greatest vector length, VLMAX = LMUL * VLEN / SEW, where a vector register has `vlenb` bytes.
-    #[tactic(auto, unfolding(crate::specs::VectorType::vlmax_of), using(crate::specs::SizeLemmas::body_small))]
+    #[tactic(auto, using(crate::specs::SizeLemmas::body_small))]
     pub fn vlmax(&self, vlenb: usize) -> u32
         requires { IsVlenb vlenb }
         ensures meaning { result ≡ vlmax_of vlenb self.now }
@@ -77,7 +76,6 @@ impl Vtype {
     /// How many registers a group has whose elements have this width: EMUL = EEW / SEW * LMUL of them, or one where EMUL
     /// is a fraction.
     #[inline(always)]
-    #[tactic(auto, unfolding(crate::specs::Legality::group_count))]
     pub fn group_count(&self, eew: Eew) -> usize
         ensures meaning { result ≡ group_count self.now eew }
         ensures positive { 0 < result }
@@ -123,7 +121,6 @@ pub fn type_in(vtype: Option<Vtype>) -> Vtype
 
 // EMUL = EEW / SEW * LMUL, in eighths.
 #[inline(always)]
-#[tactic(auto, unfolding(crate::specs::Legality::emul_eighths))]
 pub(crate) fn emul_eighths(vtype: &Vtype, eew: Eew) -> usize
     ensures meaning { result ≡ emul_eighths vtype.now eew }
     ensures bound { result ≤ 512 }
@@ -172,7 +169,6 @@ fn bits_of(width: Width) -> usize
 }
 
 #[inline(always)]
-#[tactic(auto, unfolding(crate::specs::VectorType::sew_of))]
 fn sew_of(vsew: u32) -> Option<Width>
     ensures { result ≡ sew_of vsew }
 {
@@ -185,7 +181,6 @@ fn sew_of(vsew: u32) -> Option<Width>
 }
 
 #[inline(always)]
-#[tactic(auto, unfolding(crate::specs::VectorType::lmul_of))]
 fn lmul_of(vlmul: u32) -> Option<Lmul>
     ensures { result ≡ lmul_of vlmul }
 {
@@ -202,7 +197,6 @@ fn lmul_of(vlmul: u32) -> Option<Lmul>
 
 // SEW is at most LMUL * 32.
 #[inline(always)]
-#[tactic(auto, unfolding(crate::specs::VectorType::is_supported))]
 fn is_supported(sew: Width, lmul: Lmul) -> bool
     ensures { result ≡ is_supported sew lmul }
 {

@@ -12,5 +12,4 @@ returns g c =
     ∙ ap (λ n. map f (range_with_len 0 n)) (omega arith)
 
 pub loop-i-preserved : goal.loop-i-preserved
-unfolding element_at
 loop-i-preserved g c = grind (arith, common_steps)

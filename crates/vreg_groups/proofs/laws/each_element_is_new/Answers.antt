@@ -1,11 +1,9 @@
 use Rattle.std.proofs.Common.{◌*◌, ◌/◌, arith, length}
-use Rattle.vreg_groups.specs.NewElements.{write_of}
 use Rattle.vreg_groups.specs.WriteLemmas.{element_after}
 use Rattle.vreg_groups.specs.RoomLemmas.{group_within, element_within}
 use Rattle.vreg_groups.proofs.laws.each_element_is_new.Goals as goal
 
 pub returns : goal.returns
-unfolding write_of
 returns c =
     element_after c.args.size (c.args.first * c.args.vlenb) (c.args.count * c.args.vlenb / c.args.size) c.args.policy
     c.args.results.now c.args.active.now c.args.file.now c.args.i

@@ -1,12 +1,9 @@
 use Rattle.std.proofs.Common.{◌*◌, arith, length}
-use Rattle.vreg_groups.specs.Elements.{mask_bit}
-use Rattle.vreg_groups.specs.NewElements.{mask_write_of}
 use Rattle.vreg_groups.specs.WriteLemmas.{mask_bit_after}
 use Rattle.vreg_groups.specs.RoomLemmas.{register_within}
 use Rattle.vreg_groups.proofs.laws.each_mask_bit_is_new.Goals as goal
 
 pub returns : goal.returns
-unfolding mask_bit mask_write_of
 returns c =
     mask_bit_after (c.args.register * c.args.vlenb) c.args.vlenb c.args.policy c.args.results.now c.args.active.now
     c.args.file.now c.args.i

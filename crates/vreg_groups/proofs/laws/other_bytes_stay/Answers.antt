@@ -1,12 +1,11 @@
 use Rattle.std.proofs.Common.{◌*◌, ◌/◌, length}
-use Rattle.vreg_groups.specs.NewElements.{write_of, new_bytes}
+use Rattle.vreg_groups.specs.NewElements.{new_bytes}
 use Rattle.vreg_groups.specs.PlaceLemmas.{length-new_bytes}
 use Rattle.vreg_groups.specs.WriteLemmas.{get_or-replaced_outside}
 use Rattle.vreg_groups.specs.RoomLemmas.{group_within, group_outside}
 use Rattle.vreg_groups.proofs.laws.other_bytes_stay.Goals as goal
 
 pub returns : goal.returns
-unfolding write_of
 returns c =
     let at = c.args.first * c.args.vlenb in
     get_or-replaced_outside c.args.size at (c.args.count * c.args.vlenb / c.args.size) c.args.k

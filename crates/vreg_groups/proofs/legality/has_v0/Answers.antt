@@ -1,13 +1,12 @@
 use Rattle.std.proofs.Common.{ap, sym, ◌∙◌}
 use Rattle.std.specs.Prelude.{◌==◌}
-use Rattle.vreg_groups.specs.Legality.{registers_of, count_of}
+use Rattle.vreg_groups.specs.Legality.{count_of}
 use Rattle.vreg_groups.proofs.Ranges.{zero_in_range}
 use Rattle.vreg_groups.specs.SizeLemmas.{count_of_positive}
 use Rattle.vreg_groups.proofs.legality.has_v0.Goals as goal
 
 -- the operand has register 0 where it begins there
 pub returns : goal.returns
-unfolding registers_of
 returns c vtype =
     let operand = c.args.operand.now in
     ap (λ n. n == 0) c.number.ensures.value

@@ -1,8 +1,6 @@
 use Rattle.std.proofs.Common.{arith}
 use Rattle.std.proofs.lemmas.Grind.{common_steps}
-use Rattle.vreg_groups.specs.VectorLength.{supported_vset}
 use Rattle.vreg_groups.proofs.vector_length.supported_vset.Goals as goal
 
 pub returns-in-Some : goal.returns-in-Some
-unfolding supported_vset
 returns-in-Some c = grind (arith, common_steps)

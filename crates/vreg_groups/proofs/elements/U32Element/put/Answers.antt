@@ -1,8 +1,6 @@
 use Rattle.std.proofs.Common.{arith}
 use Rattle.std.proofs.lemmas.Grind.{common_steps}
-use Rattle.vreg_groups.specs.Elements.{bytes_of}
 use Rattle.vreg_groups.proofs.elements.U32Element.put.Goals as goal
 
 pub returns : goal.returns
-unfolding bytes_of
 returns c = grind (arith, common_steps)

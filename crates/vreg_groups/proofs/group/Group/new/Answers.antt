@@ -1,11 +1,9 @@
 use Rattle.std.proofs.Common.{◌≤◌, ◌*◌, ℕ, arith, subst, sym, ◌∙◌}
-use Rattle.vreg_groups.specs.Legality.{count_of}
 use Rattle.vreg_groups.specs.SizeLemmas.{bytes_fit}
 use Rattle.vreg_groups.proofs.group.Group.new.Goals as goal
 
 -- an operand's registers exist, and what fits by bits fits by bytes
 pub invariant_of-result : goal.invariant_of-result
-unfolding count_of
 invariant_of-result g c =
     let t = c.args.vtype.now in
     let room = c.group_count.ensures.room g.row.VLENB c.args.vl c.requires.length in (

@@ -1,8 +1,6 @@
 use Rattle.std.proofs.Common.{arith}
 use Rattle.std.proofs.lemmas.Grind.{common_steps}
-use Rattle.vreg_groups.specs.Group.{written}
 use Rattle.vreg_groups.proofs.group.Group.write.Goals as goal
 
 pub returns : goal.returns
-unfolding written
 returns g c = grind (arith, common_steps)

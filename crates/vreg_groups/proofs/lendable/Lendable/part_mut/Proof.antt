@@ -50,7 +50,7 @@ use denote.FollowSlice.{lends_Elements}
 use denote.Slice.{MutSlice, Room, slice_val}
 use borrow.Table.Elements.{at, at_mul, cut_app, join_app, length-take-le}
 use Rattle.std.proofs.lemmas.List.{append_assoc, drop-drop}
-use Rattle.vreg_groups.specs.NewElements.{overlaid, overlaid_within}
+use Rattle.vreg_groups.specs.NewElements.{overlaid_within}
 use Rattle.vreg_groups.proofs.LendableMemory.{args, R, S, start, Left, elements_out, elements_in}
 use Rattle.vreg_groups.specs.contracts.lendable.Lendable.part_mut as F
 use Rattle.vreg_groups.specs.contracts.lendable.Lendable.part_mut.Key.{name as #self}
@@ -65,7 +65,6 @@ uncapped (suc i) k h = let step = suc-mul i k in ap (λ (j : ℕ). suc i * j) (c
 -- as many items as were lent, between the others, are what the loan leaves
 put_between : {X : Type 0} (m n : ℕ) (xs ws : List X) → m + n ≤ length xs → length ws ≡ n
     → take m xs ++ (ws ++ drop_list n (drop_list m xs)) ≡ overlaid_within m xs ws
-unfolding overlaid
 put_between m n xs ws le e =
     let back = drop_list n (drop_list m xs) in
     let both = length-append (take m xs) (ws ++ back) in

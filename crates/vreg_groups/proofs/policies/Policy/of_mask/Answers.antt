@@ -1,8 +1,6 @@
 use Rattle.std.proofs.Common.{arith}
 use Rattle.std.proofs.lemmas.Grind.{common_steps}
-use Rattle.vreg_groups.specs.NewElements.{mask_policy_of}
 use Rattle.vreg_groups.proofs.policies.Policy.of_mask.Goals as goal
 
 pub returns : goal.returns
-unfolding mask_policy_of
 returns c = grind (arith, common_steps)

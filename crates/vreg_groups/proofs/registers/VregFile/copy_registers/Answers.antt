@@ -1,8 +1,6 @@
 use Rattle.std.proofs.Common.{arith}
 use Rattle.std.proofs.lemmas.Grind.{common_steps}
-use Rattle.vreg_groups.specs.Copies.{copied}
 use Rattle.vreg_groups.proofs.registers.VregFile.copy_registers.Goals as goal
 
 pub returns-clause-shape : goal.returns-clause-shape
-unfolding copied
 returns-clause-shape g c = grind (arith, common_steps)

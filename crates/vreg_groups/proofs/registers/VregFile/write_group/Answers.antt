@@ -1,8 +1,6 @@
 use Rattle.std.proofs.Common.{arith}
 use Rattle.std.proofs.lemmas.Grind.{common_steps}
-use Rattle.vreg_groups.specs.NewElements.{write_of}
 use Rattle.vreg_groups.proofs.registers.VregFile.write_group.Goals as goal
 
 pub returns-clause-meaning : goal.returns-clause-meaning
-unfolding write_of
 returns-clause-meaning g c = grind (arith, common_steps)

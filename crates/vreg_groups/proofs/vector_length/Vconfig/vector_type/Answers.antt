@@ -1,7 +1,7 @@
 use Rattle.std.proofs.Common.{ap, ℕ, ◌≡◌, ◌≤◌, Option, Some, None, sym, subst, arith}
 use Rattle.std.specs.Prelude.{MatchOption}
 use Rattle.vreg_groups.specs.VectorType.{type_in, vlmax_of}
-use Rattle.vreg_groups.specs.VectorLength.{no_config, IsConfig, IsLength, IsVlenb}
+use Rattle.vreg_groups.specs.VectorLength.{no_config, IsLength, IsVlenb}
 use Rattle.vreg_groups.specs.declared.vector_type.Vtype.{Vtype}
 use Rattle.vreg_groups.specs.declared.vector_length.Vconfig.{Vconfig}
 use Rattle.vreg_groups.specs.SizeLemmas.{vlmax_small, body_small}
@@ -17,7 +17,6 @@ fits (Some t) config vlenb v h =
     record { within = h; bits = vlmax_small t vlenb config.vl h; bytes = body_small t vlenb config.vl v h }
 
 pub returns-clause-length : goal.returns-clause-length
-unfolding IsConfig
 returns-clause-length c = λ vlenb v h.
     fits c.from_bits.result c.args.self.now vlenb v
     (subst (λ (o : Option Vtype). MatchOption o (c.args.self.now ≡ no_config) (λ t. c.args.self.now.vl ≤ vlmax_of vlenb t))

@@ -5,7 +5,6 @@ use Rattle.vreg_groups.proofs.vector_type.Vtype.group_count.Goals as goal
 
 -- the result is the number of registers that hold the elements
 pub returns-clause-room : goal.returns-clause-room
-unfolding group_count
 returns-clause-room c vlenb vl h =
     let t = c.args.self.now in
     let is : group_count t c.args.eew ≡ c.max.result = omega (arith, c.max.ensures, c.emul_eighths.ensures.meaning) in
