@@ -3,9 +3,7 @@
 ghost use Rattle.std.specs.Prelude.{◌≡◌, ℕ, ◌+◌, ◌*◌, ◌<◌, ◌≤◌, true, length, map, replicate, All};
 ghost use Rattle.std.specs.List.{flat_map, list_all, range_with_len};
 ghost use Rattle.vreg_groups.specs.Elements.{bytes_of, element_at, bit_of, bit_at, number_of_bits};
-ghost use Rattle.vreg_groups.specs.NewElements.{bytes_written, filled, overlaid, replaced};
-ghost use Rattle.vreg_groups.specs.NewElements.{new_bytes, new_element, new_mask_byte};
-ghost use Rattle.vreg_groups.specs.NewElements.{new_mask_bytes};
+ghost use Rattle.vreg_groups.specs.NewElements as spec;
 
 use crate::elements::Element;
 use crate::policies::{Agnostic, Policy, body_element, new_element};
@@ -66,8 +64,8 @@ pub(crate) fn write_elements<E: Element>(
     policy: Policy,
 )
     requires { at + E.SIZE * count ≤ length bytes.old }
-    ensures { bytes.new ≡ replaced E.SIZE at count
-        (new_bytes E.SIZE at policy (map E.number values.now) active.now bytes.old) bytes.old }
+    ensures { bytes.new ≡ spec.replaced E.SIZE at count
+        (spec.new_bytes E.SIZE at policy (map E.number values.now) active.now bytes.old) bytes.old }
 {
     are_bytes(bytes);
     let body = count.min(values.len());
@@ -96,8 +94,8 @@ pub(crate) fn write_all_elements<E: Element>(
     policy: Policy,
 )
     requires { at + E.SIZE * count ≤ length bytes.old }
-    ensures { bytes.new ≡ replaced E.SIZE at count
-        (new_bytes E.SIZE at policy (map E.number values.now)
+    ensures { bytes.new ≡ spec.replaced E.SIZE at count
+        (spec.new_bytes E.SIZE at policy (map E.number values.now)
         (replicate (length values.now) true) bytes.old) bytes.old }
 {
     are_bytes(bytes);
@@ -122,7 +120,7 @@ pub(crate) fn write_all_bytes(
 )
     requires results { at + length results.now ≤ end }
     requires room { end ≤ length bytes.old }
-    ensures { bytes.new ≡ bytes_written at end tail results.now bytes.old }
+    ensures { bytes.new ≡ spec.bytes_written at end tail results.now bytes.old }
 {
     overlay(bytes, at, results);
     let past = at + results.len();
@@ -133,7 +131,7 @@ pub(crate) fn write_all_bytes(
 #[tactic(auto, unfolding(crate::specs::NewElements::overlaid))]
 pub(crate) fn overlay(bytes: &mut [u8], at: usize, others: &[u8])
     requires { at + length others.now ≤ length bytes.old }
-    ensures { bytes.new ≡ overlaid at others.now bytes.old }
+    ensures { bytes.new ≡ spec.overlaid at others.now bytes.old }
 {
     bytes[at..at + others.len()].copy_from_slice(others);
 }
@@ -156,8 +154,8 @@ fn write_body<E: Element>(
 )
     requires room { at + E.SIZE * length values.now ≤ length bytes.old }
     requires told { length active.now ≡ length values.now }
-    ensures { bytes.new ≡ replaced E.SIZE at (length values.now)
-        (new_bytes E.SIZE at policy (map E.number values.now) active.now bytes.old) bytes.old }
+    ensures { bytes.new ≡ spec.replaced E.SIZE at (length values.now)
+        (spec.new_bytes E.SIZE at policy (map E.number values.now) active.now bytes.old) bytes.old }
 {
     if are_all(active) {
         put_elements(bytes, at, values);
@@ -186,7 +184,7 @@ fn are_all(flags: &[bool]) -> bool
 /// Writes all results, from place `at` on.
 pub(crate) fn put_elements<E: Element>(bytes: &mut [u8], at: usize, values: &[E])
     requires { at + E.SIZE * length values.now ≤ length bytes.old }
-    ensures { bytes.new ≡ overlaid at (flat_map (bytes_of E.SIZE) (map E.number values.now))
+    ensures { bytes.new ≡ spec.overlaid at (flat_map (bytes_of E.SIZE) (map E.number values.now))
         bytes.old }
 {
     for (i, value) in values.iter().enumerate() {
@@ -198,7 +196,8 @@ pub(crate) fn put_elements<E: Element>(bytes: &mut [u8], at: usize, values: &[E]
 #[tactic(auto, unfolding(crate::specs::NewElements::overlaid))]
 pub(crate) fn fill_if(bytes: &mut [u8], at: usize, n: usize, agnostic: Agnostic)
     requires { at + n ≤ length bytes.old }
-    ensures { bytes.new ≡ filled agnostic (overlaid at (replicate n 0xff) bytes.old) bytes.old }
+    ensures { bytes.new ≡ spec.filled agnostic (spec.overlaid at (replicate n 0xff) bytes.old)
+        bytes.old }
 {
     match agnostic {
         Agnostic::Keep => {}
@@ -217,8 +216,8 @@ pub(crate) fn write_bits(
 )
     requires room { at + count ≤ length bytes.old }
     requires few { count ≤ 64 }
-    ensures { bytes.new ≡ replaced 1 at count
-        (new_mask_bytes at policy values.now active.now bytes.old) bytes.old }
+    ensures { bytes.new ≡ spec.replaced 1 at count
+        (spec.new_mask_bytes at policy values.now active.now bytes.old) bytes.old }
 {
     for j in 0..count {
         bytes[at + j] = new_mask_byte(policy, values, active, j, bytes[at + j]);
@@ -228,7 +227,7 @@ pub(crate) fn write_bits(
 #[tactic(auto, unfolding(crate::specs::NewElements::new_mask_byte, crate::specs::Elements::number_of_bits))]
 fn new_mask_byte(policy: Policy, values: &[bool], active: &[bool], j: usize, old: u8) -> u8
     requires { j < 64 }
-    ensures { result ≡ new_mask_byte policy values.now active.now j old }
+    ensures { result ≡ spec.new_mask_byte policy values.now active.now j old }
 {
     if 8 * j + 8 <= values.len() && 8 * j + 8 <= active.len() {
         return body_mask_byte(policy, values, active, j, old);
@@ -248,7 +247,7 @@ fn body_mask_byte(policy: Policy, values: &[bool], active: &[bool], j: usize, ol
     requires few { j < 64 }
     requires results { 8 * j + 8 ≤ length values.now }
     requires told { 8 * j + 8 ≤ length active.now }
-    ensures { result ≡ new_mask_byte policy values.now active.now j old }
+    ensures { result ≡ spec.new_mask_byte policy values.now active.now j old }
 {
     let mut byte = 0;
     for k in 0..8 {
@@ -265,7 +264,7 @@ fn body_mask_byte(policy: Policy, values: &[bool], active: &[bool], j: usize, ol
 fn body_bit(policy: Policy, values: &[bool], active: &[bool], i: usize, old: bool) -> bool
     requires result { i < length values.now }
     requires told { i < length active.now }
-    ensures { result ≡ new_element policy true values.now active.now i old }
+    ensures { result ≡ spec.new_element policy true values.now active.now i old }
 {
     body_element(policy.inactive, true, values[i], active[i], old)
 }

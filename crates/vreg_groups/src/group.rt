@@ -3,8 +3,7 @@
 ghost use Rattle.std.specs.Prelude.{◌≡◌, ◌≤◌, ◌+◌, ◌*◌, true, length, map, replicate};
 ghost use Rattle.std.specs.List.{flat_map};
 ghost use Rattle.vreg_groups.specs.Elements.{bytes_of, numbers_of};
-ghost use Rattle.vreg_groups.specs.Group.{IsGroupInside, IsSize, group_of, body_bytes, body_of};
-ghost use Rattle.vreg_groups.specs.Group.{mask_bytes_of, whole_of, written};
+ghost use Rattle.vreg_groups.specs.Group as spec;
 ghost use Rattle.vreg_groups.specs.Legality.{whole_count};
 ghost use Rattle.vreg_groups.specs.VectorLength.{IsVlenb};
 ghost use Rattle.vreg_groups.specs.VectorType.{vlmax_of};
@@ -48,8 +47,8 @@ impl<const VLENB: usize> Group<VLENB> {
     pub fn new(vtype: &Vtype, vl: usize, first: Reg, eew: Eew) -> Group<VLENB>
         requires vlenb { IsVlenb VLENB }
         requires length { vl ≤ vlmax_of VLENB vtype.now }
-        requires inside { IsGroupInside vtype.now first eew }
-        ensures { result ≡ group_of vtype.now vl first eew }
+        requires inside { spec.IsGroupInside vtype.now first eew }
+        ensures { result ≡ spec.group_of vtype.now vl first eew }
     {
         Group {
             first,
@@ -63,7 +62,7 @@ impl<const VLENB: usize> Group<VLENB> {
     pub fn mask_bytes(vl: usize, first: Reg) -> Group<VLENB>
         requires vlenb { IsVlenb VLENB }
         requires bits { vl ≤ 8 * VLENB }
-        ensures { result ≡ mask_bytes_of vl first }
+        ensures { result ≡ spec.mask_bytes_of vl first }
     {
         Group {
             first,
@@ -77,7 +76,7 @@ impl<const VLENB: usize> Group<VLENB> {
     pub fn whole(first: Reg, count: Count, width: Width) -> Group<VLENB>
         requires vlenb { IsVlenb VLENB }
         requires inside { first + whole_count count ≤ 32 }
-        ensures { result ≡ whole_of VLENB first count width }
+        ensures { result ≡ spec.whole_of VLENB first count width }
     {
         let count = whole_count(count);
         let bytes = usize::from(width.bytes());
@@ -113,7 +112,7 @@ impl<const VLENB: usize> Group<VLENB> {
     pub fn read<E: Element>(&self, registers: &VregFile<VLENB>, out: &mut [E])
         requires width { E.SIZE ≡ self.now.bytes }
         requires length { length out.old ≡ self.now.vl }
-        ensures { map E.number out.new ≡ body_of VLENB self.now registers.now }
+        ensures { map E.number out.new ≡ spec.body_of VLENB self.now registers.now }
     {
         let _ = self.vl;
         registers.read_group(self.first, out);
@@ -129,7 +128,7 @@ impl<const VLENB: usize> Group<VLENB> {
         policy: Policy,
     )
         requires { E.SIZE ≡ self.now.bytes }
-        ensures { registers.new ≡ written VLENB self.now policy (map E.number results.now)
+        ensures { registers.new ≡ spec.written VLENB self.now policy (map E.number results.now)
             active.now registers.old }
     {
         registers.write_group(self.first, self.count, results, active, policy);
@@ -144,7 +143,7 @@ impl<const VLENB: usize> Group<VLENB> {
         policy: Policy,
     )
         requires { E.SIZE ≡ self.now.bytes }
-        ensures { registers.new ≡ written VLENB self.now policy (map E.number results.now)
+        ensures { registers.new ≡ spec.written VLENB self.now policy (map E.number results.now)
             (replicate (length results.now) true) registers.old }
     {
         registers.write_group_all(self.first, self.count, results, policy);
@@ -153,12 +152,12 @@ impl<const VLENB: usize> Group<VLENB> {
     /// The bytes of the elements of the body: from the group's first byte on.
     #[tactic(auto, unfolding(crate::specs::Group::body_bytes))]
     pub fn body_bytes<'a>(&self, registers: &'a VregFile<VLENB>) -> &'a [u8]
-        ensures meaning { result.now ≡ body_bytes VLENB self.now registers.now }
+        ensures meaning { result.now ≡ spec.body_bytes VLENB self.now registers.now }
         ensures size { length result.now ≡ self.now.bytes * self.now.vl }
-        ensures numbers { body_of VLENB self.now registers.now
+        ensures numbers { spec.body_of VLENB self.now registers.now
             ≡ numbers_of self.now.bytes self.now.vl result.now }
-        ensures bytes { flat_map (bytes_of self.now.bytes) (body_of VLENB self.now registers.now)
-            ≡ result.now }
+        ensures bytes { flat_map (bytes_of self.now.bytes) (spec.body_of VLENB self.now
+            registers.now) ≡ result.now }
     {
         let whole = registers.group(self.first, self.count);
         let bytes = &whole[..self.bytes * self.vl];
@@ -168,9 +167,9 @@ impl<const VLENB: usize> Group<VLENB> {
 
     /// Writes to the group the body whose elements have these bytes, all of them active.
     pub fn write_bytes(&self, registers: &mut VregFile<VLENB>, results: &[u8], policy: Policy)
-        requires size { IsSize self.now.bytes }
+        requires size { spec.IsSize self.now.bytes }
         requires length { length results.now ≡ self.now.bytes * self.now.vl }
-        ensures { registers.new ≡ written VLENB self.now policy
+        ensures { registers.new ≡ spec.written VLENB self.now policy
             (numbers_of self.now.bytes self.now.vl results.now) (replicate self.now.vl true)
             registers.old }
     {

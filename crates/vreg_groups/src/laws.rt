@@ -2,7 +2,7 @@
 
 ghost use Rattle.std.specs.Prelude.{ℕ, ◌-◌, ◌≡◌, ◌+◌, ◌*◌, ◌^◌, ◌<◌, ◌≤◌, ◌⊎◌, length, slice_index, All};
 ghost use Rattle.vreg_groups.specs.Elements.{element_at};
-ghost use Rattle.vreg_groups.specs.NewElements.{new_element, write_of, mask_write_of, overlaid, overlaid_within};
+ghost use Rattle.vreg_groups.specs.NewElements as spec;
 ghost use Rattle.vreg_groups.specs.VectorLength.{IsVlenb};
 ghost use Rattle.vreg_groups.specs.Laws.{ElementIsNew, MaskBitIsNew};
 
@@ -50,8 +50,8 @@ pub fn other_bytes_stay(
     requires group { first + count ≤ 32 }
     requires registers { length file.now ≡ 32 * vlenb }
     requires outside { (k < first * vlenb) ⊎ ((first + count) * vlenb ≤ k) }
-    ensures { slice_index (write_of vlenb size first count policy results.now active.now file.now) k
-        ≡ slice_index file.now k }
+    ensures { slice_index (spec.write_of vlenb size first count policy results.now active.now
+        file.now) k ≡ slice_index file.now k }
 {
     let _ = file;
 }
@@ -87,8 +87,8 @@ pub fn other_registers_stay(
     requires vlenb_is { IsVlenb vlenb }
     requires registers { length file.now ≡ 32 * vlenb }
     requires outside { (k < register * vlenb) ⊎ ((register + 1) * vlenb ≤ k) }
-    ensures { slice_index (mask_write_of vlenb register policy results.now active.now file.now) k
-        ≡ slice_index file.now k }
+    ensures { slice_index (spec.mask_write_of vlenb register policy results.now active.now file.now)
+        k ≡ slice_index file.now k }
 {
     let _ = register.number();
 }
@@ -97,7 +97,7 @@ pub fn other_registers_stay(
 /// `set_register_bytes` puts them.
 pub fn lent_bytes_are_written(file: &[u8], at: usize, written: &[u8])
     requires { at + length written.now ≤ length file.now }
-    ensures { overlaid_within at file.now written.now ≡ overlaid at written.now file.now }
+    ensures { spec.overlaid_within at file.now written.now ≡ spec.overlaid at written.now file.now }
 {
     let _ = file;
 }
@@ -122,11 +122,12 @@ pub fn new_elements_are_a_write(
     requires same { length new.now ≡ length file.now }
     requires elements { (i : ℕ) → size * i + size ≤ count * vlenb
         → element_at size (first * vlenb) new.now i
-        ≡ new_element policy (256 ^ size - 1) results.now active.now i
+        ≡ spec.new_element policy (256 ^ size - 1) results.now active.now i
         (element_at size (first * vlenb) file.now i) }
     requires others { (k : ℕ) → (k < first * vlenb) ⊎ ((first + count) * vlenb ≤ k)
         → slice_index new.now k ≡ slice_index file.now k }
-    ensures { new.now ≡ write_of vlenb size first count policy results.now active.now file.now }
+    ensures { new.now ≡ spec.write_of vlenb size first count policy results.now active.now file.now
+        }
 {
     let _ = file;
     let _ = new;

@@ -7,15 +7,7 @@ ghost use Rattle.rv_decode.specs.Needs.{needs_of, needs_of_access, group, operan
 ghost use Rattle.rv_decode.specs.declared.extents.Eew.TheVariants.{Same};
 ghost use Rattle.vreg_groups.specs.VectorLength.{IsConfig, IsLength, IsVlenb};
 ghost use Rattle.vreg_groups.specs.VectorType.{type_in, vlmax_of, vtype_of};
-ghost use Rattle.vreg_groups.specs.Legality.{eew_bits, is_common, is_in_a_row, emul_eighths};
-ghost use Rattle.vreg_groups.specs.Legality.{group_count, whole_count, count_of, registers_of};
-ghost use Rattle.vreg_groups.specs.Legality.{is_among, are_apart, is_width, is_group_legal};
-ghost use Rattle.vreg_groups.specs.Legality.{is_operand_legal, element_bits, is_emul_whole};
-ghost use Rattle.vreg_groups.specs.Legality.{may_overlap, is_overlap_legal, is_grouped};
-ghost use Rattle.vreg_groups.specs.Legality.{is_pair_legal, keeps_mask, is_mask_legal};
-ghost use Rattle.vreg_groups.specs.Legality.{is_present_legal, is_source_legal};
-ghost use Rattle.vreg_groups.specs.Legality.{is_destination_legal, are_operands_legal, is_legal};
-ghost use Rattle.vreg_groups.specs.Legality.{AreAllInside, IsInside};
+ghost use Rattle.vreg_groups.specs.Legality as spec;
 
 use crate::vector_length::Vconfig;
 use crate::vector_type::{Vtype, emul_eighths, type_in};
@@ -31,7 +23,7 @@ use rv_decode::{
 /// operands are whole registers. An instruction without vector operands always is.
 #[tactic(auto, unfolding(crate::specs::Legality::is_legal))]
 pub fn legal(config: &Vconfig, insn: &Insn) -> bool
-    ensures { result ≡ is_legal config.now insn.now }
+    ensures { result ≡ spec.is_legal config.now insn.now }
 {
     are_operands_legal(config.vector_type(), &needs(insn))
 }
@@ -41,9 +33,9 @@ pub fn legal(config: &Vconfig, insn: &Insn) -> bool
 /// Its operands are inside the registers, and vl fits the type.
 #[tactic(auto, unfolding(crate::specs::Legality::is_legal))]
 pub fn legal_type(config: &Vconfig, insn: &Insn) -> Option<Vtype>
-    ensures meaning { result ≡ (if is_legal config.now insn.now
+    ensures meaning { result ≡ (if spec.is_legal config.now insn.now
         then Some (type_in (vtype_of config.now.vtype)) else None) }
-    ensures inside { IfSome result (λ t. AreAllInside t (needs_of insn.now)) }
+    ensures inside { IfSome result (λ t. spec.AreAllInside t (needs_of insn.now)) }
     ensures length { IfSome result (λ t. (vlenb : ℕ) → IsVlenb vlenb → IsConfig vlenb config.now
         → IsLength vlenb t config.now.vl) }
 {
@@ -58,9 +50,9 @@ pub fn legal_type(config: &Vconfig, insn: &Insn) -> Option<Vtype>
 /// The same of a vector load or store.
 #[tactic(auto, unfolding(crate::specs::Legality::is_legal, rv_decode::specs::Needs::needs_of))]
 pub fn legal_access_type(config: &Vconfig, access: &VMem) -> Option<Vtype>
-    ensures meaning { result ≡ (if is_legal config.now (Insn.VMem access.now)
+    ensures meaning { result ≡ (if spec.is_legal config.now (Insn.VMem access.now)
         then Some (type_in (vtype_of config.now.vtype)) else None) }
-    ensures inside { IfSome result (λ t. AreAllInside t (needs_of_access access.now)) }
+    ensures inside { IfSome result (λ t. spec.AreAllInside t (needs_of_access access.now)) }
     ensures length { IfSome result (λ t. (vlenb : ℕ) → IsVlenb vlenb → IsConfig vlenb config.now
         → IsLength vlenb t config.now.vl) }
 {
@@ -75,9 +67,9 @@ pub fn legal_access_type(config: &Vconfig, access: &VMem) -> Option<Vtype>
 #[inline(always)]
 #[tactic(auto, unfolding(rv_decode::specs::Needs::needs_of, rv_decode::specs::Needs::needs_of_arith, crate::specs::Legality::are_operands_legal, crate::specs::Legality::is_destination_legal, crate::specs::Legality::is_common, crate::specs::Legality::is_in_a_row))]
 fn is_plain(vtype: Option<Vtype>, insn: &Insn) -> bool
-    ensures meaning { result ≡ (is_some vtype && is_common insn.now
-        && are_operands_legal vtype (needs_of insn.now)) }
-    ensures inside { result ≡ true → AreAllInside (type_in vtype) (needs_of insn.now) }
+    ensures meaning { result ≡ (is_some vtype && spec.is_common insn.now
+        && spec.are_operands_legal vtype (needs_of insn.now)) }
+    ensures inside { result ≡ true → spec.AreAllInside (type_in vtype) (needs_of insn.now) }
 {
     let Some(vtype) = vtype else {
         return false;
@@ -102,9 +94,9 @@ fn is_plain(vtype: Option<Vtype>, insn: &Insn) -> bool
 #[inline(always)]
 #[tactic(auto, using(crate::proofs::Plain::same_width), unfolding(crate::specs::Legality::are_operands_legal, crate::specs::Legality::is_destination_legal, crate::specs::Legality::is_source_legal))]
 fn is_plain_operation(vtype: &Vtype, vd: Reg, vs2: Reg, b: &Source, masked: bool) -> bool
-    ensures meaning { result ≡ are_operands_legal (Some vtype.now) (operands (group Same vd)
+    ensures meaning { result ≡ spec.are_operands_legal (Some vtype.now) (operands (group Same vd)
         (group Same vs2) (second b.now) masked Sharing.ByWidth) }
-    ensures inside { result ≡ true → AreAllInside vtype.now (operands (group Same vd)
+    ensures inside { result ≡ true → spec.AreAllInside vtype.now (operands (group Same vd)
         (group Same vs2) (second b.now) masked Sharing.ByWidth) }
 {
     let destination = same_group(vd);
@@ -128,8 +120,8 @@ fn same_group(first: Reg) -> Operand
 // Whether the second operand is legal by itself.
 #[inline(always)]
 fn is_second_legal(vtype: &Vtype, b: &Source) -> bool
-    ensures meaning { result ≡ is_present_legal (Some vtype.now) (second b.now) }
-    ensures inside { result ≡ true → IfSome (second b.now) (IsInside vtype.now) }
+    ensures meaning { result ≡ spec.is_present_legal (Some vtype.now) (second b.now) }
+    ensures inside { result ≡ true → IfSome (second b.now) (spec.IsInside vtype.now) }
 {
     match b {
         Source::Vector(vs1) => is_operand_legal(Some(*vtype), &same_group(*vs1)),
@@ -141,9 +133,9 @@ fn is_second_legal(vtype: &Vtype, b: &Source) -> bool
 #[inline(always)]
 #[tactic(auto, unfolding(rv_decode::specs::Needs::needs_of_access, rv_decode::specs::Needs::needs_of_place, rv_decode::specs::Needs::access_operands, crate::specs::Legality::is_in_a_row, crate::specs::Legality::are_operands_legal, crate::specs::Legality::is_destination_legal, crate::specs::Legality::is_source_legal))]
 fn is_plain_access(vtype: &Vtype, access: &VMem) -> bool
-    ensures meaning { result ≡ (is_in_a_row access.now.place && are_operands_legal (Some vtype.now)
-        (needs_of_access access.now)) }
-    ensures inside { result ≡ true → AreAllInside vtype.now (needs_of_access access.now) }
+    ensures meaning { result ≡ (spec.is_in_a_row access.now.place && spec.are_operands_legal (Some
+        vtype.now) (needs_of_access access.now)) }
+    ensures inside { result ≡ true → spec.AreAllInside vtype.now (needs_of_access access.now) }
 {
     let place = access.place;
     match place {
@@ -168,8 +160,8 @@ fn is_plain_access(vtype: &Vtype, access: &VMem) -> bool
 #[inline(never)]
 #[tactic(auto, unfolding(crate::specs::Legality::are_operands_legal))]
 pub(crate) fn are_operands_legal(vtype: Option<Vtype>, operands: &Operands) -> bool
-    ensures meaning { result ≡ are_operands_legal vtype operands.now }
-    ensures inside { result ≡ true → AreAllInside (type_in vtype) operands.now }
+    ensures meaning { result ≡ spec.are_operands_legal vtype operands.now }
+    ensures inside { result ≡ true → spec.AreAllInside (type_in vtype) operands.now }
 {
     is_present_legal(vtype, &operands.destination)
         && is_present_legal(vtype, &operands.vs2)
@@ -178,8 +170,8 @@ pub(crate) fn are_operands_legal(vtype: Option<Vtype>, operands: &Operands) -> b
 }
 
 fn is_present_legal(vtype: Option<Vtype>, operand: &Option<Operand>) -> bool
-    ensures meaning { result ≡ is_present_legal vtype operand.now }
-    ensures inside { result ≡ true → IfSome operand.now (IsInside (type_in vtype)) }
+    ensures meaning { result ≡ spec.is_present_legal vtype operand.now }
+    ensures inside { result ≡ true → IfSome operand.now (spec.IsInside (type_in vtype)) }
 {
     match operand {
         None => true,
@@ -191,8 +183,8 @@ fn is_present_legal(vtype: Option<Vtype>, operand: &Option<Operand>) -> bool
 #[inline(always)]
 #[tactic(auto, unfolding(crate::specs::Legality::is_operand_legal, crate::specs::Legality::count_of, crate::specs::Legality::element_bits))]
 fn is_operand_legal(vtype: Option<Vtype>, operand: &Operand) -> bool
-    ensures meaning { result ≡ is_operand_legal vtype operand.now.extent operand.now.first }
-    ensures inside { result ≡ true → IsInside (type_in vtype) operand.now }
+    ensures meaning { result ≡ spec.is_operand_legal vtype operand.now.extent operand.now.first }
+    ensures inside { result ≡ true → spec.IsInside (type_in vtype) operand.now }
 {
     let first = usize::from(operand.first.number());
     let extent = operand.extent;
@@ -215,10 +207,10 @@ fn is_operand_legal(vtype: Option<Vtype>, operand: &Operand) -> bool
 #[tactic(auto, using(crate::specs::SizeLemmas::group_ends, crate::specs::SizeLemmas::group_small))]
 fn is_group_legal(vtype: &Vtype, eew: Eew, first: usize) -> bool
     requires { first < 32 }
-    ensures meaning { result ≡ is_group_legal vtype.now eew first }
-    ensures inside { result ≡ true → (first + group_count vtype.now eew ≤ 32)
-        × (8 ≤ eew_bits vtype.now.sew eew) × (eew_bits vtype.now.sew eew ≤ 32)
-        × (group_count vtype.now eew ≤ 8) }
+    ensures meaning { result ≡ spec.is_group_legal vtype.now eew first }
+    ensures inside { result ≡ true → (first + spec.group_count vtype.now eew ≤ 32)
+        × (8 ≤ spec.eew_bits vtype.now.sew eew) × (spec.eew_bits vtype.now.sew eew ≤ 32)
+        × (spec.group_count vtype.now eew ≤ 8) }
 {
     is_width(usize::from(vtype.eew_bits(eew)))
         && emul_eighths(vtype, eew) <= 64
@@ -243,7 +235,7 @@ fn is_multiple(first: usize, count: usize) -> bool
 
 #[tactic(auto, unfolding(crate::specs::Legality::is_destination_legal))]
 fn is_destination_legal(vtype: Option<Vtype>, operands: &Operands) -> bool
-    ensures { result ≡ is_destination_legal vtype operands.now operands.now.destination }
+    ensures { result ≡ spec.is_destination_legal vtype operands.now operands.now.destination }
 {
     match &operands.destination {
         None => true,
@@ -262,7 +254,7 @@ fn is_source_legal(
     destination: &Operand,
     source: &Option<Operand>,
 ) -> bool
-    ensures { result ≡ is_source_legal vtype sharing destination.now source.now }
+    ensures { result ≡ spec.is_source_legal vtype sharing destination.now source.now }
 {
     match source {
         None => true,
@@ -278,7 +270,7 @@ fn is_pair_legal(
     destination: &Operand,
     source: &Operand,
 ) -> bool
-    ensures { result ≡ is_pair_legal vtype sharing destination.now source.now }
+    ensures { result ≡ spec.is_pair_legal vtype sharing destination.now source.now }
 {
     !is_grouped(destination.extent)
         || !is_grouped(source.extent)
@@ -287,7 +279,7 @@ fn is_pair_legal(
 }
 
 fn is_grouped(extent: Extent) -> bool
-    ensures { result ≡ is_grouped extent }
+    ensures { result ≡ spec.is_grouped extent }
 {
     match extent {
         Extent::Group(_) | Extent::Mask => true,
@@ -298,7 +290,8 @@ fn is_grouped(extent: Extent) -> bool
 // No register belongs to both.
 #[tactic(auto, unfolding(crate::specs::Legality::registers_of))]
 fn are_apart(vtype: Option<Vtype>, a: &Operand, b: &Operand) -> bool
-    ensures { result ≡ are_apart (registers_of vtype a.now) (registers_of vtype b.now) }
+    ensures { result ≡ spec.are_apart (spec.registers_of vtype a.now) (spec.registers_of vtype
+        b.now) }
 {
     are_ranges_apart(
         usize::from(a.first.number()),
@@ -315,14 +308,14 @@ fn are_ranges_apart(a: usize, a_count: usize, b: usize, b_count: usize) -> bool
     requires b_fits { b + b_count < 2 ^ 32 }
     requires a_some { 0 < a_count }
     requires b_some { 0 < b_count }
-    ensures { result ≡ are_apart (range_with_len a a_count) (range_with_len b b_count) }
+    ensures { result ≡ spec.are_apart (range_with_len a a_count) (range_with_len b b_count) }
 {
     a + a_count <= b || b + b_count <= a
 }
 
 // The number after that of an operand's last register.
 fn end_of(vtype: Option<Vtype>, operand: &Operand) -> usize
-    ensures { result ≡ operand.now.first + count_of vtype operand.now.extent }
+    ensures { result ≡ operand.now.first + spec.count_of vtype operand.now.extent }
 {
     usize::from(operand.first.number()) + count_of(vtype, operand.extent)
 }
@@ -334,7 +327,7 @@ fn is_overlap_legal(
     destination: &Operand,
     source: &Operand,
 ) -> bool
-    ensures { result ≡ is_overlap_legal vtype sharing destination.now source.now }
+    ensures { result ≡ spec.is_overlap_legal vtype sharing destination.now source.now }
 {
     match vtype {
         None => true,
@@ -348,7 +341,7 @@ fn is_overlap_legal(
 // Whether widths, and where the groups begin and end, let a destination overlap a source.
 #[tactic(auto, unfolding(crate::specs::Legality::may_overlap))]
 fn may_overlap(vtype: &Vtype, destination: &Operand, source: &Operand) -> bool
-    ensures { result ≡ may_overlap vtype.now destination.now source.now }
+    ensures { result ≡ spec.may_overlap vtype.now destination.now source.now }
 {
     let written = element_bits(vtype, destination.extent);
     let read = element_bits(vtype, source.extent);
@@ -361,7 +354,7 @@ fn may_overlap(vtype: &Vtype, destination: &Operand, source: &Operand) -> bool
 
 #[tactic(auto, unfolding(crate::specs::Legality::is_emul_whole))]
 fn is_emul_whole(vtype: &Vtype, extent: Extent) -> bool
-    ensures { result ≡ is_emul_whole vtype.now extent }
+    ensures { result ≡ spec.is_emul_whole vtype.now extent }
 {
     match extent {
         Extent::Group(eew) => emul_eighths(vtype, eew) >= 8,
@@ -373,7 +366,8 @@ fn is_emul_whole(vtype: &Vtype, extent: Extent) -> bool
 #[inline(always)]
 #[tactic(auto, unfolding(crate::specs::Legality::is_mask_legal))]
 fn is_mask_legal(masked: bool, sharing: Sharing, destination: &Operand) -> bool
-    ensures { (vtype : Option Vtype) → result ≡ is_mask_legal vtype masked sharing destination.now }
+    ensures { (vtype : Option Vtype) → result ≡ spec.is_mask_legal vtype masked sharing
+        destination.now }
 {
     !masked || !keeps_mask(sharing, destination.extent) || !has_v0(destination)
 }
@@ -382,7 +376,8 @@ fn is_mask_legal(masked: bool, sharing: Sharing, destination: &Operand) -> bool
 #[inline(always)]
 #[tactic(auto, unfolding(crate::specs::Legality::registers_of))]
 fn has_v0(operand: &Operand) -> bool
-    ensures { (vtype : Option Vtype) → result ≡ is_among 0 (registers_of vtype operand.now) }
+    ensures { (vtype : Option Vtype) → result ≡ spec.is_among 0 (spec.registers_of vtype
+        operand.now) }
 {
     operand.first.number() == 0
 }
@@ -390,7 +385,7 @@ fn has_v0(operand: &Operand) -> bool
 #[inline(always)]
 #[tactic(auto, unfolding(crate::specs::Legality::keeps_mask))]
 fn keeps_mask(sharing: Sharing, extent: Extent) -> bool
-    ensures { result ≡ keeps_mask sharing extent }
+    ensures { result ≡ spec.keeps_mask sharing extent }
 {
     match sharing {
         Sharing::Nothing => true,
@@ -404,7 +399,7 @@ fn keeps_mask(sharing: Sharing, extent: Extent) -> bool
 // How many registers an operand covers.
 #[tactic(auto, unfolding(crate::specs::Legality::count_of))]
 fn count_of(vtype: Option<Vtype>, extent: Extent) -> usize
-    ensures meaning { result ≡ count_of vtype extent }
+    ensures meaning { result ≡ spec.count_of vtype extent }
     ensures positive { 0 < result }
     ensures bound { result ≤ 256 }
 {
@@ -421,7 +416,7 @@ fn count_of(vtype: Option<Vtype>, extent: Extent) -> usize
 /// How many registers a whole-register form has.
 #[inline(always)]
 pub fn whole_count(count: Count) -> usize
-    ensures meaning { result ≡ whole_count count }
+    ensures meaning { result ≡ spec.whole_count count }
     ensures positive { 0 < result }
     ensures bound { result ≤ 8 }
 {
@@ -436,7 +431,7 @@ pub fn whole_count(count: Count) -> usize
 #[inline(always)]
 #[tactic(auto, unfolding(crate::specs::Legality::is_width))]
 fn is_width(bits: usize) -> bool
-    ensures meaning { result ≡ is_width bits }
+    ensures meaning { result ≡ spec.is_width bits }
     ensures bound { result ≡ true → (8 ≤ bits) × (bits ≤ 32) }
 {
     8 <= bits && bits <= 32
@@ -445,7 +440,7 @@ fn is_width(bits: usize) -> bool
 // The width of an operand's elements, in bits.
 #[tactic(auto, unfolding(crate::specs::Legality::element_bits))]
 fn element_bits(vtype: &Vtype, extent: Extent) -> usize
-    ensures { result ≡ element_bits vtype.now extent }
+    ensures { result ≡ spec.element_bits vtype.now extent }
 {
     match extent {
         Extent::Group(eew) | Extent::Single(eew) => usize::from(vtype.eew_bits(eew)),

@@ -1,8 +1,7 @@
 //! What becomes of the elements of a destination that no result is written to.
 
 ghost use Rattle.std.specs.Prelude.{◌≡◌, ◌<◌, length, if◌then◌else◌};
-ghost use Rattle.vreg_groups.specs.NewElements.{policy_of, mask_policy_of, agnostic_if, filled};
-ghost use Rattle.vreg_groups.specs.NewElements.{new_element};
+ghost use Rattle.vreg_groups.specs.NewElements as spec;
 
 use crate::vector_type::Vtype;
 
@@ -25,7 +24,7 @@ impl Policy {
     /// the others keep their values ("Vector Tail Agnostic and Vector Mask Agnostic").
     #[tactic(auto, unfolding(crate::specs::NewElements::policy_of))]
     pub fn of(agnostic: Agnostic, vtype: &Vtype) -> Policy
-        ensures { result ≡ policy_of agnostic vtype.now }
+        ensures { result ≡ spec.policy_of agnostic vtype.now }
     {
         Policy {
             tail: agnostic_if(vtype.vta, agnostic),
@@ -36,7 +35,7 @@ impl Policy {
     /// The policy of an instruction under `vtype` whose destination is a mask: its tail is always agnostic.
     #[tactic(auto, unfolding(crate::specs::NewElements::mask_policy_of))]
     pub fn of_mask(agnostic: Agnostic, vtype: &Vtype) -> Policy
-        ensures { result ≡ mask_policy_of agnostic vtype.now }
+        ensures { result ≡ spec.mask_policy_of agnostic vtype.now }
     {
         Policy {
             tail: agnostic,
@@ -46,7 +45,7 @@ impl Policy {
 }
 
 fn agnostic_if(is_agnostic: bool, agnostic: Agnostic) -> Agnostic
-    ensures { result ≡ agnostic_if is_agnostic agnostic }
+    ensures { result ≡ spec.agnostic_if is_agnostic agnostic }
 {
     if is_agnostic {
         agnostic
@@ -67,7 +66,7 @@ pub(crate) fn new_element<T: Copy>(
     i: usize,
     old: T,
 ) -> T
-    ensures { result ≡ new_element policy ones results.now active.now i old }
+    ensures { result ≡ spec.new_element policy ones results.now active.now i old }
 {
     if i >= results.len() {
         return filled(policy.tail, ones, old);
@@ -87,7 +86,7 @@ pub(crate) fn body_element<T: Copy>(
     is_active: bool,
     old: T,
 ) -> T
-    ensures { result ≡ (if is_active then value else filled inactive ones old) }
+    ensures { result ≡ (if is_active then value else spec.filled inactive ones old) }
 {
     let rest = filled(inactive, ones, old);
     if is_active { value } else { rest }
@@ -95,7 +94,7 @@ pub(crate) fn body_element<T: Copy>(
 
 // An element that no result is written to.
 fn filled<T: Copy>(agnostic: Agnostic, ones: T, old: T) -> T
-    ensures { result ≡ filled agnostic ones old }
+    ensures { result ≡ spec.filled agnostic ones old }
 {
     match agnostic {
         Agnostic::Keep => old,

@@ -5,8 +5,7 @@ ghost use lib.Lanes.{chunk, put_chunk};
 ghost use Rattle.std.specs.Prelude.{◌≡◌, ℕ, ◌+◌, ◌*◌, ◌/◌, ◌<◌, ◌≤◌, ◌⊎◌, ◌++◌, true, length, map};
 ghost use Rattle.std.specs.Prelude.{replicate, take, drop, slice_index, All};
 ghost use Rattle.vreg_groups.specs.Copies.{copied};
-ghost use Rattle.vreg_groups.specs.Elements.{mask_bit, bytes_from, element_at, elements_of};
-ghost use Rattle.vreg_groups.specs.Elements.{mask_bits, active_of};
+ghost use Rattle.vreg_groups.specs.Elements as spec;
 ghost use Rattle.vreg_groups.specs.VectorLength.{IsVlenb};
 ghost use Rattle.vreg_groups.specs.NewElements.{bytes_written, filled, overlaid, write_of, mask_write_of};
 
@@ -75,7 +74,7 @@ impl<const VLENB: usize> VregFile<VLENB> {
     #[tactic(auto, unfolding(crate::specs::Elements::mask_bit))]
     pub fn bit(&self, register: Reg, i: usize) -> bool
         requires { i < 8 * VLENB }
-        ensures meaning { result ≡ mask_bit VLENB register self.now i }
+        ensures meaning { result ≡ spec.mask_bit VLENB register self.now i }
         ensures shape { length self.now ≡ 32 * VLENB }
     {
         bit_at(self.all(), place_of(register, VLENB), i)
@@ -88,8 +87,8 @@ impl<const VLENB: usize> VregFile<VLENB> {
     #[tactic(auto, unfolding(crate::specs::Elements::elements_of))]
     pub fn read_group<E: Element>(&self, first: Reg, out: &mut [E])
         requires { first * VLENB + E.SIZE * length out.old ≤ 32 * VLENB }
-        ensures meaning { map E.number out.new ≡ elements_of VLENB E.SIZE first (length out.old)
-            self.now }
+        ensures meaning { map E.number out.new ≡ spec.elements_of VLENB E.SIZE first (length
+            out.old) self.now }
         ensures shape { length self.now ≡ 32 * VLENB }
     {
         read_elements(self.all(), place_of(first, VLENB), out);
@@ -99,7 +98,7 @@ impl<const VLENB: usize> VregFile<VLENB> {
     #[tactic(auto, unfolding(crate::specs::Elements::mask_bits))]
     pub fn read_mask(&self, register: Reg, out: &mut [bool])
         requires { length out.old ≤ 8 * VLENB }
-        ensures meaning { out.new ≡ mask_bits VLENB register (length out.old) self.now }
+        ensures meaning { out.new ≡ spec.mask_bits VLENB register (length out.old) self.now }
         ensures shape { length self.now ≡ 32 * VLENB }
     {
         read_bits(self.all(), place_of(register, VLENB), out);
@@ -110,7 +109,7 @@ impl<const VLENB: usize> VregFile<VLENB> {
     #[tactic(auto, unfolding(crate::specs::Elements::active_of))]
     pub fn read_active(&self, masked: bool, active: &mut [bool])
         requires { length active.old ≤ 8 * VLENB }
-        ensures meaning { active.new ≡ active_of VLENB masked (length active.old) self.now }
+        ensures meaning { active.new ≡ spec.active_of VLENB masked (length active.old) self.now }
         ensures shape { length self.now ≡ 32 * VLENB }
     {
         let _ = self.all();
@@ -202,7 +201,7 @@ impl<const VLENB: usize> VregFile<VLENB> {
     /// The bytes of the group of `count` registers that begins at `first`: its registers lie end to end.
     pub fn group(&self, first: Reg, count: usize) -> &[u8]
         requires { first + count ≤ 32 }
-        ensures meaning { result.now ≡ bytes_from (first * VLENB) (count * VLENB) self.now }
+        ensures meaning { result.now ≡ spec.bytes_from (first * VLENB) (count * VLENB) self.now }
         ensures size { length result.now ≡ count * VLENB }
     {
         let bytes = self.all();
@@ -214,7 +213,7 @@ impl<const VLENB: usize> VregFile<VLENB> {
     pub fn group_mut(&mut self, first: Reg, count: usize) -> &mut [u8]
         requires { first + count ≤ 32 }
         ensures* lent { sem 𝓛 (lends_group VLENB.row self.entry (first * VLENB) result) }
-        ensures meaning { result.now ≡ bytes_from (first * VLENB) (count * VLENB) self.old }
+        ensures meaning { result.now ≡ spec.bytes_from (first * VLENB) (count * VLENB) self.old }
         ensures size { length result.now ≡ count * VLENB }
     {
         let _ = &self.bytes;
@@ -267,7 +266,7 @@ impl<const VLENB: usize> VregFile<VLENB> {
     /// Element 0 of the group that begins at `register`.
     #[tactic(auto, unfolding(crate::specs::Elements::element_at))]
     pub fn first_element<E: Element>(&self, register: Reg) -> E
-        ensures meaning { E.number result ≡ element_at E.SIZE (register * VLENB) self.now 0 }
+        ensures meaning { E.number result ≡ spec.element_at E.SIZE (register * VLENB) self.now 0 }
         ensures shape { length self.now ≡ 32 * VLENB }
     {
         E::get(self.all(), place_of(register, VLENB))

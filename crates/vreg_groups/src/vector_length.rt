@@ -2,8 +2,7 @@
 
 ghost use Rattle.std.specs.Prelude.{◌≡◌, ◌≤◌, ◌⊎◌, ℕ, min, IfSome, ◌*◌};
 ghost use Rattle.vreg_groups.specs.VectorType.{type_in, vtype_of, vlmax_of};
-ghost use Rattle.vreg_groups.specs.VectorLength.{IsVlenb, vlenb_of, no_config, supported_vset};
-ghost use Rattle.vreg_groups.specs.VectorLength.{vset_of, IsConfig, IsLength};
+ghost use Rattle.vreg_groups.specs.VectorLength as spec;
 
 use crate::vector_type::Vtype;
 
@@ -21,8 +20,8 @@ pub enum Vlen {
 impl Vlen {
     /// The number of bytes of a vector register, which the CSR vlenb reads as.
     pub fn bytes(self) -> usize
-        ensures meaning { result ≡ vlenb_of self }
-        ensures length { IsVlenb result }
+        ensures meaning { result ≡ spec.vlenb_of self }
+        ensures length { spec.IsVlenb result }
     {
         match self {
             Vlen::V128 => 16,
@@ -43,8 +42,8 @@ impl Vconfig {
     /// vtype with vill alone, and the length 0: where a run starts, and what a request that is not supported sets.
     #[tactic(auto, unfolding(crate::specs::VectorLength::IsConfig, crate::specs::VectorType::vtype_of))]
     pub fn none() -> Vconfig
-        ensures meaning { result ≡ no_config }
-        ensures config { (vlenb : ℕ) → IsConfig vlenb result }
+        ensures meaning { result ≡ spec.no_config }
+        ensures config { (vlenb : ℕ) → spec.IsConfig vlenb result }
     {
         Vconfig {
             vtype: 0x8000_0000,
@@ -56,8 +55,8 @@ impl Vconfig {
     #[tactic(auto, unfolding(crate::specs::VectorLength::IsConfig))]
     pub fn vector_type(&self) -> Option<Vtype>
         ensures meaning { result ≡ vtype_of self.now.vtype }
-        ensures length { (vlenb : ℕ) → IsVlenb vlenb → IsConfig vlenb self.now → IsLength vlenb
-            (type_in result) self.now.vl }
+        ensures length { (vlenb : ℕ) → spec.IsVlenb vlenb → spec.IsConfig vlenb self.now →
+            spec.IsLength vlenb (type_in result) self.now.vl }
     {
         Vtype::from_bits(self.vtype)
     }
@@ -81,9 +80,9 @@ pub enum Avl {
 /// ("Vector Configuration-Setting Instructions").
 #[tactic(auto, unfolding(crate::specs::VectorLength::vset_of, crate::specs::VectorLength::requested_vset, crate::specs::VectorLength::supported_vset, crate::specs::VectorLength::IsConfig))]
 pub fn vset(vlenb: usize, config: Vconfig, avl: Avl, bits: u32) -> Vconfig
-    requires { IsVlenb vlenb }
-    ensures meaning { result ≡ vset_of vlenb config avl bits }
-    ensures kept { IsConfig vlenb config → IsConfig vlenb result }
+    requires { spec.IsVlenb vlenb }
+    ensures meaning { result ≡ spec.vset_of vlenb config avl bits }
+    ensures kept { spec.IsConfig vlenb config → spec.IsConfig vlenb result }
     ensures length { IfSome (vtype_of bits) (λ t. (n : ℕ) → avl ≡ Avl.Of n → result.vl ≡ min n
         (vlmax_of vlenb t)) }
 {
@@ -95,8 +94,9 @@ pub fn vset(vlenb: usize, config: Vconfig, avl: Avl, bits: u32) -> Vconfig
 
 #[tactic(auto, unfolding(crate::specs::VectorLength::supported_vset))]
 fn supported_vset(vlenb: usize, config: Vconfig, avl: Avl, bits: u32, vlmax: u32) -> Vconfig
-    requires { IsVlenb vlenb }
-    ensures meaning { result ≡ supported_vset vlenb config (vtype_of config.vtype) avl bits vlmax }
+    requires { spec.IsVlenb vlenb }
+    ensures meaning { result ≡ spec.supported_vset vlenb config (vtype_of config.vtype) avl bits
+        vlmax }
 {
     match avl {
         Avl::Greatest => Vconfig {

@@ -5,8 +5,7 @@ ghost use Rattle.std.specs.Prelude.{◌≡◌, ℕ, ◌*◌, ◌/◌, ◌<◌, �
 ghost use Rattle.vreg_groups.specs.Legality.{eew_bits, emul_eighths, group_count};
 ghost use Rattle.vreg_groups.specs.VectorLength.{IsVlenb};
 ghost use Rattle.rv_decode.specs.Instructions.{bits_of_width, bytes_of_width};
-ghost use Rattle.vreg_groups.specs.VectorType.{eighths_of, sew_of};
-ghost use Rattle.vreg_groups.specs.VectorType.{lmul_of, is_supported, type_in, vtype_of, vlmax_of};
+ghost use Rattle.vreg_groups.specs.VectorType as spec;
 ghost use Rattle.vreg_groups.specs.declared.vector_type.TheConstants.{MOST_ELEMENTS};
 
 use rv_decode::{Eew, Width};
@@ -45,7 +44,7 @@ impl Vtype {
     #[inline(always)]
     #[tactic(auto, unfolding(crate::specs::VectorType::vtype_of))]
     pub fn from_bits(bits: u32) -> Option<Vtype>
-        ensures meaning { result ≡ vtype_of bits }
+        ensures meaning { result ≡ spec.vtype_of bits }
     {
         if bits >= 256 {
             return None;
@@ -67,7 +66,7 @@ impl Vtype {
     #[tactic(auto, unfolding(crate::specs::VectorType::vlmax_of), using(crate::specs::SizeLemmas::body_small))]
     pub fn vlmax(&self, vlenb: usize) -> u32
         requires { IsVlenb vlenb }
-        ensures meaning { result ≡ vlmax_of vlenb self.now }
+        ensures meaning { result ≡ spec.vlmax_of vlenb self.now }
         ensures bound { result ≤ MOST_ELEMENTS }
         ensures bytes { bytes_of_width self.now.sew * result ≤ MOST_ELEMENTS }
     {
@@ -82,8 +81,8 @@ impl Vtype {
         ensures meaning { result ≡ group_count self.now eew }
         ensures positive { 0 < result }
         ensures bound { result ≤ 64 }
-        ensures room { (vlenb vl : ℕ) → vl ≤ vlmax_of vlenb self.now → eew_bits self.now.sew eew *
-            vl ≤ 8 * (result * vlenb) }
+        ensures room { (vlenb vl : ℕ) → vl ≤ spec.vlmax_of vlenb self.now → eew_bits self.now.sew
+            eew * vl ≤ 8 * (result * vlenb) }
     {
         (emul_eighths(self, eew) / 8).max(1)
     }
@@ -108,7 +107,7 @@ impl Vtype {
 /// forms are legal then ("Vector Type Illegal (vill)").
 #[inline(always)]
 pub fn type_in(vtype: Option<Vtype>) -> Vtype
-    ensures { result ≡ type_in vtype }
+    ensures { result ≡ spec.type_in vtype }
 {
     match vtype {
         Some(vtype) => vtype,
@@ -137,7 +136,7 @@ pub(crate) fn emul_eighths(vtype: &Vtype, eew: Eew) -> usize
 // LMUL, counted in eighths.
 #[inline(always)]
 pub(crate) fn eighths(lmul: Lmul) -> usize
-    ensures meaning { result ≡ eighths_of lmul }
+    ensures meaning { result ≡ spec.eighths_of lmul }
     ensures bound { result ≤ 64 }
 {
     match lmul {
@@ -174,7 +173,7 @@ fn bits_of(width: Width) -> usize
 #[inline(always)]
 #[tactic(auto, unfolding(crate::specs::VectorType::sew_of))]
 fn sew_of(vsew: u32) -> Option<Width>
-    ensures { result ≡ sew_of vsew }
+    ensures { result ≡ spec.sew_of vsew }
 {
     match vsew {
         0 => Some(Width::W8),
@@ -187,7 +186,7 @@ fn sew_of(vsew: u32) -> Option<Width>
 #[inline(always)]
 #[tactic(auto, unfolding(crate::specs::VectorType::lmul_of))]
 fn lmul_of(vlmul: u32) -> Option<Lmul>
-    ensures { result ≡ lmul_of vlmul }
+    ensures { result ≡ spec.lmul_of vlmul }
 {
     match vlmul {
         0 => Some(Lmul::One),
@@ -204,7 +203,7 @@ fn lmul_of(vlmul: u32) -> Option<Lmul>
 #[inline(always)]
 #[tactic(auto, unfolding(crate::specs::VectorType::is_supported))]
 fn is_supported(sew: Width, lmul: Lmul) -> bool
-    ensures { result ≡ is_supported sew lmul }
+    ensures { result ≡ spec.is_supported sew lmul }
 {
     8 * bits_of(sew) <= 32 * eighths(lmul)
 }
