@@ -6,6 +6,7 @@ use Rattle.scalar_core.specs.Hart.{with_reg}
 use Rattle.abs_domain.specs.declared.values.Effect.{Effect}
 use Rattle.abs_domain.specs.Numbers.{NumbersView, table_with, value_at, with_result}
 use Rattle.abs_domain.specs.Described.{IsNumber, Describes}
+use Rattle.abs_domain.specs.declared.numbers.TheConstants.{NUMBERS}
 
 -- the number of register i, or of vl for 32
 abbrev pub number_of : ℕ → Hart → Vconfig → ℕ
@@ -21,9 +22,9 @@ AreSplitsBelow atoms =
 pub record Holds (s : NumbersView) (v : ℕ → ℕ) (h : Hart) (config : Vconfig) : Type 0 where
   pub atoms : AgreesWith (table_with s.atoms) v
   pub splits : AreSplitsBelow s.atoms
-  pub forms : length s.forms ≡ 33
-  pub ranges : length s.ranges ≡ 33
-  pub each : (i : ℕ) → i < 33 → IsNumber (length s.atoms) v (value_at s i) (number_of i h config)
+  pub forms : length s.forms ≡ NUMBERS
+  pub ranges : length s.ranges ≡ NUMBERS
+  pub each : (i : ℕ) → i < NUMBERS → IsNumber (length s.atoms) v (value_at s i) (number_of i h config)
 
 -- What is known next is true of the next hart, with the same numbers for the atoms that there were.
 pub record Follows (old new : NumbersView) (v : ℕ → ℕ) (h : Hart) (config : Vconfig) : Type 0 where

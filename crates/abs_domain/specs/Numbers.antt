@@ -5,6 +5,7 @@ use Rattle.linear_facts.specs.Ranges.{unknown_atom}
 use Rattle.abs_domain.specs.Words.{Range, Atom, Split, Linear, number_form, atom_form, within, AtomTable, range_of_form}
 use Rattle.abs_domain.specs.declared.values.Effect.{Effect}
 use Rattle.abs_domain.specs.declared.values.Effect.TheVariants.{Computed, Fresh, Copied}
+use Rattle.abs_domain.specs.declared.numbers.TheConstants.{NUMBERS}
 use Rattle.abs_domain.specs.Values.{ValueView, just, or_full, computed_range}
 
 -- The atoms; the forms and ranges of x0 to x31 and, as number 32, of vl.
@@ -17,8 +18,8 @@ pub record NumbersView : Type 0 where
 unfoldable pub zero_numbers : NumbersView
 zero_numbers = record {
   atoms = [];
-  forms = replicate 33 (number_form 0);
-  ranges = replicate 33 (just 0);
+  forms = replicate NUMBERS (number_form 0);
+  ranges = replicate NUMBERS (just 0);
 }
 
 -- atoms as a table, with no split put into their place

@@ -22,7 +22,7 @@ pub use laws::{
     load_effects, register_effects, results_hold, shift_effects, stores_keep_zones,
     zones_are_permitted, zones_are_there,
 };
-pub use numbers::{MOST_ATOMS, Numbers, VL, whole_atom};
+pub use numbers::{MOST_ATOMS, NUMBERS, Numbers, VL, whole_atom};
 pub use starts::{entry_numbers, start_value};
 pub use values::{Effect, Value, computed_range, known};
 pub use why::Why;

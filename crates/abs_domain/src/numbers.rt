@@ -16,6 +16,9 @@ use std::marker::Model;
 /// The number of vl, behind those of x0 to x31.
 pub const VL: usize = 32;
 
+/// How many numbers there are: those of x0 to x31, and behind them that of vl.
+pub const NUMBERS: usize = VL + 1;
+
 /// How many atoms there may be.
 pub const MOST_ATOMS: usize = 8300;
 
@@ -25,13 +28,13 @@ pub const MOST_ATOMS: usize = 8300;
 pub struct Numbers<A: Allocator = Global> {
     pub(crate) atoms: Vec<Atom, A>,
     pub(crate) forms: Vec<Form<8>, A>,
-    pub(crate) ranges: [Range; 33],
+    pub(crate) ranges: [Range; NUMBERS],
 }
 
 impl<A: Allocator> Model for Numbers<A> {
     ghost use Rattle.std.specs.Prelude.{◌≡◌, ◌≤◌, length, vec_capacity};
     ghost use Rattle.abs_domain.specs.Numbers.{NumbersView};
-    ghost use Rattle.abs_domain.specs.declared.numbers.TheConstants.{MOST_ATOMS};
+    ghost use Rattle.abs_domain.specs.declared.numbers.TheConstants.{MOST_ATOMS, NUMBERS};
 
     ghost Value = { NumbersView };
 
@@ -41,16 +44,16 @@ impl<A: Allocator> Model for Numbers<A> {
       ranges = s.ranges;
     } };
 
-    // There are 33 forms, and room for all atoms.
-    ghost invariant = { λ s. (length s.forms.items ≡ 33) × (MOST_ATOMS ≤ vec_capacity s.atoms) };
+    // There is a form of each number, and room for all atoms.
+    ghost invariant = { λ s. (length s.forms.items ≡ NUMBERS) × (MOST_ATOMS ≤ vec_capacity s.atoms) };
 }
 
 /// As many forms as there are numbers, each the number 0.
 fn zeros<A: Allocator>(alloc: A) -> Result<Vec<Form<8>, A>, AllocError>
-    ensures { IfOk result (λ v. v.items ≡ replicate 33 (number_form 0)) }
+    ensures { IfOk result (λ v. v.items ≡ replicate NUMBERS (number_form 0)) }
 {
-    let mut forms = Vec::with_capacity(alloc, 33)?;
-    for _number in 0..33_usize {
+    let mut forms = Vec::with_capacity(alloc, NUMBERS)?;
+    for _number in 0..NUMBERS {
         forms.push(Form::number(0))?;
     }
     Ok(forms)
@@ -82,14 +85,18 @@ impl<A: Allocator> Numbers<A> {
         Ok(Numbers {
             atoms: Vec::with_capacity(alloc, MOST_ATOMS)?,
             forms: zeros(alloc)?,
-            ranges: [Range { lo: 0, hi: 0 }; 33],
+            ranges: [Range { lo: 0, hi: 0 }; NUMBERS],
         })
     }
 
     /// The numbers with these atoms, forms and ranges.
-    pub(crate) fn by(atoms: Vec<Atom, A>, forms: Vec<Form<8>, A>, ranges: [Range; 33]) -> Numbers<A>
+    pub(crate) fn by(
+        atoms: Vec<Atom, A>,
+        forms: Vec<Form<8>, A>,
+        ranges: [Range; NUMBERS],
+    ) -> Numbers<A>
         requires room { MOST_ATOMS ≤ vec_capacity atoms }
-        requires count { length forms.items ≡ 33 }
+        requires count { length forms.items ≡ NUMBERS }
         ensures { result ≡ record { atoms = atoms.items; forms = forms.items; ranges = ranges } }
     {
         Numbers {
@@ -113,7 +120,7 @@ impl<A: Allocator> Numbers<A> {
     /// What is known of the number of a register (0 to 31) or of vl (32).
     #[tactic(auto, unfolding(crate::specs::Numbers::value_at))]
     pub fn value(&self, number: usize) -> Value<'_>
-        requires { number < 33 }
+        requires { number < NUMBERS }
         ensures { result ≡ value_at self.now number }
     {
         Value {
@@ -125,7 +132,7 @@ impl<A: Allocator> Numbers<A> {
     /// The range of the number of a register (0 to 31) or of vl (32).
     #[tactic(auto, unfolding(crate::specs::Numbers::value_at))]
     pub fn range_at(&self, number: usize) -> Range
-        requires { number < 33 }
+        requires { number < NUMBERS }
         ensures { result ≡ (value_at self.now number).range }
     {
         self.ranges[number]
@@ -139,7 +146,7 @@ impl<A: Allocator> Numbers<A> {
     }
 
     /// The ranges of x0 to x31 and, as number 32, of vl.
-    pub fn ranges(&self) -> [Range; 33]
+    pub fn ranges(&self) -> [Range; NUMBERS]
         ensures { result ≡ self.now.ranges }
     {
         self.ranges
@@ -170,7 +177,7 @@ impl<A: Allocator> Numbers<A> {
     /// The number is one that is known.
     #[tactic(auto, unfolding(crate::specs::Numbers::with_value))]
     pub fn set_value(&mut self, number: usize, form: Form<8>, range: Range)
-        requires { number < 33 }
+        requires { number < NUMBERS }
         ensures { self.new ≡ with_value number record { form = form; range = range } self.old }
     {
         self.forms[number] = form;
@@ -180,7 +187,7 @@ impl<A: Allocator> Numbers<A> {
     /// The number is a new atom in this range.
     #[tactic(auto, unfolding(crate::specs::Numbers::with_fresh))]
     pub fn set_fresh(&mut self, number: usize, range: Range)
-        requires number { number < 33 }
+        requires number { number < NUMBERS }
         requires room { length self.old.atoms < MOST_ATOMS }
         ensures { self.new ≡ with_fresh number range self.old }
     {
@@ -192,7 +199,7 @@ impl<A: Allocator> Numbers<A> {
     /// has more than eight terms it is a new atom in the interval.
     #[tactic(auto, unfolding(crate::specs::Numbers::with_computed, crate::specs::Numbers::with_short))]
     pub fn set_computed(&mut self, number: usize, form: &Form<16>, interval: Option<Range>)
-        requires number { number < 33 }
+        requires number { number < NUMBERS }
         requires room { length self.old.atoms < MOST_ATOMS }
         ensures { self.new ≡ with_computed number form.now interval self.old }
     {
@@ -208,7 +215,7 @@ impl<A: Allocator> Numbers<A> {
     /// The number is what an instruction computes.
     #[tactic(auto, unfolding(crate::specs::Numbers::with_effect))]
     pub fn set_effect(&mut self, number: usize, effect: Effect)
-        requires number { number < 33 }
+        requires number { number < NUMBERS }
         requires room { length self.old.atoms < MOST_ATOMS }
         ensures { self.new ≡ with_effect number effect self.old }
     {

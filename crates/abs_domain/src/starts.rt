@@ -1,6 +1,7 @@
 //! The numbers of registers and vl where a block of a certificate begins, and where a run does.
 ghost use Rattle.std.specs.Prelude.{◌≡◌, ◌<◌, ◌≤◌, ◌+◌, ◌++◌, ◌∷◌, [], length, map, vec_capacity};
 ghost use Rattle.std.specs.Prelude.{ℕ, IfOk, Some, None};
+ghost use Rattle.cert_note.specs.declared.values.TheConstants.{PARAMETER_ATOMS_END};
 ghost use Rattle.scalar_core.specs.declared.entry.EntryValue.TheVariants.{Passed};
 ghost use Rattle.std.specs.List.{range_with_len, slice_get, AllByRecursion};
 ghost use Rattle.linear_facts.specs.Forms.{IsForm};
@@ -22,9 +23,9 @@ ghost use Rattle.abs_domain.specs.Numbers.{plain};
 ghost use Rattle.abs_domain.specs.Orders.{with_order, with_orders};
 
 use crate::effects::just;
-use crate::numbers::{MOST_ATOMS, Numbers};
+use crate::numbers::{MOST_ATOMS, NUMBERS, Numbers};
 use crate::values::computed_range;
-use cert_note::{Equality, OrderFact, RegisterFact};
+use cert_note::{Equality, OrderFact, PARAMETER_ATOMS, RegisterFact};
 use linear_facts::{Atom, Atoms, Form, Range, Split, Term};
 use region_mem::{Param, Parameters};
 use scalar_core::{EntryValue, entry_value};
@@ -147,7 +148,7 @@ fn put_atoms<A: Allocator>(
     ensures room { MOST_ATOMS ≤ vec_capacity atoms.new }
 {
     atoms.clear();
-    for number in 0..33_u8 {
+    for number in 0..NUMBERS as u8 {
         push_plain(atoms, stated_range(facts, number));
     }
     for place in 0..8_usize {
@@ -190,8 +191,8 @@ fn add_order<A: Allocator>(atoms: &mut Vec<Atom, A>, order: OrderFact)
 
 /// The atoms where all orders hold.
 fn add_orders<A: Allocator>(atoms: &mut Vec<Atom, A>, orders: &[OrderFact])
-    requires greater { AllByRecursion (λ order. order.greater < 33) orders.now }
-    requires many { 33 ≤ length atoms.old.items }
+    requires greater { AllByRecursion (λ order. order.greater < NUMBERS) orders.now }
+    requires many { NUMBERS ≤ length atoms.old.items }
     requires few { length atoms.old.items + length orders.now ≤ 73 }
     requires room { MOST_ATOMS ≤ vec_capacity atoms.old }
     ensures atoms { atoms.new.items ≡ with_orders atoms.old.items orders.now }
@@ -206,24 +207,24 @@ fn add_orders<A: Allocator>(atoms: &mut Vec<Atom, A>, orders: &[OrderFact])
 /// The forms of registers and vl where these facts hold, in place of what was there.
 fn put_forms<A: Allocator>(forms: &mut Vec<Form<8>, A>, facts: &[RegisterFact])
     requires form { AllByRecursion HasForm facts.now }
-    requires count { length forms.old.items ≡ 33 }
-    ensures { forms.new.items ≡ map (stated_form_of facts.now) (range_with_len 0 33) }
+    requires count { length forms.old.items ≡ NUMBERS }
+    ensures { forms.new.items ≡ map (stated_form_of facts.now) (range_with_len 0 NUMBERS) }
 {
-    for number in 0..33_usize {
+    for number in 0..NUMBERS {
         forms[number] = stated_form(facts, number as u8);
     }
 }
 
 /// The ranges of registers and vl where these facts hold.
-fn start_ranges(atoms: &Atoms<'_>, forms: &[Form<8>], facts: &[RegisterFact]) -> [Range; 33]
-    requires { forms.now ≡ map (stated_form_of facts.now) (range_with_len 0 33) }
+fn start_ranges(atoms: &Atoms<'_>, forms: &[Form<8>], facts: &[RegisterFact]) -> [Range; NUMBERS]
+    requires { forms.now ≡ map (stated_form_of facts.now) (range_with_len 0 NUMBERS) }
     ensures { result ≡ map
         (λ i. computed_range_of (Some (stated_range_of facts.now i))
         (range_of_form atoms.now (stated_form_of facts.now i)))
-        (range_with_len 0 33) }
+        (range_with_len 0 NUMBERS) }
 {
-    let mut ranges = [Range::FULL; 33];
-    for number in 0..33_usize {
+    let mut ranges = [Range::FULL; NUMBERS];
+    for number in 0..NUMBERS {
         ranges[number] = computed_range(
             Some(stated_range(facts, number as u8)),
             forms[number].range_of(atoms),
@@ -268,7 +269,7 @@ fn entry_form(parameters: &Parameters, number: u8) -> Form<8>
 {
     match start_value(parameters, number) {
         EntryValue::Number(number) => Form::number(number),
-        EntryValue::Passed(place) => Form::atom(33 + place as u16),
+        EntryValue::Passed(place) => Form::atom(u16::from(PARAMETER_ATOMS) + place as u16),
     }
 }
 
@@ -278,22 +279,22 @@ fn entry_forms<A: Allocator>(
     parameters: &Parameters,
 ) -> Result<Vec<Form<8>, A>, AllocError>
     ensures { IfOk result (λ forms.
-        forms.items ≡ map (entry_form_of parameters.now) (range_with_len 0 33)) }
+        forms.items ≡ map (entry_form_of parameters.now) (range_with_len 0 NUMBERS)) }
 {
-    let mut forms = Vec::with_capacity(alloc, 33)?;
-    for number in 0..33_u8 {
+    let mut forms = Vec::with_capacity(alloc, NUMBERS)?;
+    for number in 0..NUMBERS as u8 {
         forms.push(entry_form(parameters, number))?;
     }
     Ok(forms)
 }
 
 /// The ranges of these forms.
-fn form_ranges(atoms: &Atoms<'_>, forms: &[Form<8>]) -> [Range; 33]
-    requires { length forms.now ≡ 33 }
+fn form_ranges(atoms: &Atoms<'_>, forms: &[Form<8>]) -> [Range; NUMBERS]
+    requires { length forms.now ≡ NUMBERS }
     ensures { result
         ≡ map (λ form. computed_range_of None (range_of_form atoms.now form)) forms.now }
 {
-    let mut ranges = [Range::FULL; 33];
+    let mut ranges = [Range::FULL; NUMBERS];
     for (place, form) in forms.iter().enumerate() {
         ranges[place] = computed_range(None, form.range_of(atoms));
     }
@@ -305,7 +306,7 @@ impl<A: Allocator> Numbers<A> {
     #[tactic(auto, unfolding(crate::specs::Starts::start_numbers, crate::specs::Starts::numbers_by))]
     pub fn start(&mut self, parameters: &Parameters, facts: &[RegisterFact], orders: &[OrderFact])
         requires forms { AllByRecursion HasForm facts.now }
-        requires greater { AllByRecursion (λ order. order.greater < 33) orders.now }
+        requires greater { AllByRecursion (λ order. order.greater < NUMBERS) orders.now }
         requires few { length orders.now ≤ 32 }
         ensures numbers { self.new ≡ start_numbers_of parameters.now facts.now orders.now }
         ensures few { length self.new.atoms ≤ 73 }
@@ -332,7 +333,7 @@ pub fn entry_numbers<A: Allocator>(
 where
     A: Copy,
     ensures numbers { IfOk result (λ numbers. numbers ≡ entry_numbers_of parameters.now) }
-    ensures few { IfOk result (λ numbers. length numbers.atoms ≡ 41) }
+    ensures few { IfOk result (λ numbers. length numbers.atoms ≡ PARAMETER_ATOMS_END) }
 {
     let mut atoms = Vec::with_capacity(alloc, MOST_ATOMS)?;
     put_atoms(&mut atoms, parameters, &[]);

@@ -100,7 +100,7 @@ IsPaid v n (Some budget) a =
     × IsNumber (length a.numbers.atoms) v a.paid x
     × IsNumber (length a.numbers.atoms) v a.second_paid y
 
--- The numbers of the atoms are those that were passed from atom 33 on, and all that is known holds
+-- The numbers of the atoms are those that were passed from the first atom of a parameter on, and all that is known holds
 -- of the machine.
 pub record IsKnown (e : Setting) (v : ℕ → ℕ) (n : ℕ) (a : AbstractView) (m : Machine) : Type 0 where
   pub vlenb : a.vlenb ≡ vlenb_in e

@@ -13,7 +13,7 @@ ghost use Rattle.abs_state.specs.Branches.{without_end as without_end_of};
 ghost use Rattle.abs_state.specs.declared.branches.Relation.TheVariants.{Below};
 
 use crate::state::{Abstract, Way};
-use abs_domain::{computed_range, copy_of, whole_atom};
+use abs_domain::{NUMBERS, computed_range, copy_of, whole_atom};
 use cert_note::VectorFact;
 use linear_facts::{Atoms, Change, Form, Range};
 use rv_decode::{Condition, Reg};
@@ -176,7 +176,7 @@ fn changes(
 #[derive(Drop)]
 pub struct Edge<'a, A: Allocator = Global> {
     pub(crate) state: &'a Abstract<A>,
-    pub(crate) ranges: [Range; 33],
+    pub(crate) ranges: [Range; NUMBERS],
     pub(crate) first: Option<Change>,
     pub(crate) second: Option<Change>,
     pub(crate) refined: bool,

@@ -1,5 +1,5 @@
 -- What the registers hold at the start of a run is what the bound takes them for.
-use Rattle.std.proofs.Common.{◌≡◌, ◌<◌, ℕ, false, arith, refl, sym, ap, ◌∙◌, List, length, get_or, Some}
+use Rattle.std.proofs.Common.{◌≡◌, ◌<◌, ℕ, false, arith, refl, sym, ap, ◌∙◌, List, length, get_or, Option, Some, None}
 use Rattle.std.specs.Prelude.{slice_index}
 use Rattle.std.specs.List.{slice_get}
 use Rattle.std.specs.Option.{option_map}
@@ -17,7 +17,21 @@ use Rattle.scalar_core.specs.EntryLemmas.{entry_place, reg_of-entry_hart}
 use Rattle.machine.specs.Start.{passed_at, passed_number, start_hart}
 use Rattle.abs_domain.specs.Starts.{passed_value, start_value, value_for}
 use Rattle.abs_state.specs.EntryLemmas.{pair_at}
-use Rattle.block_checker.specs.Bound.{scalar_of, scalars_of, start_number}
+use Rattle.abs_state.specs.Held.{budget_at}
+use Rattle.cert_note.specs.declared.values.Block.{Block}
+use Rattle.cert_note.specs.declared.values.Budget.{Budget}
+use Rattle.block_checker.specs.Bound.{bound_in, scalar_of, scalars_of, start_number}
+
+-- ---- the budget
+
+-- the bound is that of the budget of the block that is there
+pub bound_by : (params : List Param) (scalars : List ℕ) (block : Option Block) (budget : Budget) → option_map (λ b. b.budget) block ≡ Some budget
+    → bound_in params scalars block ≡ budget_at budget (start_number params scalars)
+unfolding bound_in
+bound_by params scalars None budget is = cc
+bound_by params scalars (Some block) budget is =
+    let same : block.budget ≡ budget = cc in
+    ap (λ (b : Budget). budget_at b (start_number params scalars)) same
 
 -- ---- what is passed
 

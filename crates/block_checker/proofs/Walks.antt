@@ -9,8 +9,7 @@ use Rattle.abs_state.specs.declared.state.TheConstants.{MOST_WORDS}
 use Rattle.abs_state.specs.State.{AbstractView}
 use Rattle.block_checker.specs.declared.errors.CheckError.{CheckError}
 use Rattle.block_checker.specs.declared.errors.CheckError.TheVariants.{BlockTooLong}
-use Rattle.block_checker.specs.Passes.{Checked, Ended, On, both, word_passes, walk, block_passes, blocks_pass}
-use Rattle.block_checker.specs.Accepted.{IsAnswer}
+use Rattle.block_checker.specs.Passes.{Ended, On, both, word_passes, walk, block_passes, blocks_pass}
 
 -- ---- words
 
@@ -56,33 +55,24 @@ at_place blocks n l =
       | inr h ↦ absurd (omega (arith, l, h.0))
     ]
 
-passed : (answer : Checked) → IsAnswer (Ok tt) answer → answer ≡ Ok tt
-passed answer (inl e) = sym e
-passed answer (inr e) = cc
-
 -- a block that passes leaves those behind it
 pub blocks_next : (image : ImageView) (certificate : CertificateView) (blocks : List Block) (n : ℕ) → n < length blocks
-    → ((b : Block) → slice_get blocks n ≡ Some b → IsAnswer (Ok tt) (block_passes image certificate b))
+    → ((b : Block) → slice_get blocks n ≡ Some b → Ok tt ≡ block_passes image certificate b)
     → blocks_pass image certificate (drop n blocks) ≡ blocks_pass image certificate (drop (n + 1) blocks)
 unfolding blocks_pass
 blocks_next image certificate blocks n l given =
     let place = at_place blocks n l in
-    let passes : block_passes image certificate place.0 ≡ Ok tt = passed _ (given place.0 place.1) in
-    ap (blocks_pass image certificate) place.2 ∙ ap (λ x. both x (blocks_pass image certificate (drop (n + 1) blocks))) passes
-
-both_refused : (error : CheckError) (answer next : Checked) → IsAnswer (Err error) answer → IsAnswer (Err error) (both answer next)
-both_refused error answer next (inl e) = inl (ap (λ x. both x next) e)
-both_refused error answer next (inr e) = inr e
+    ap (blocks_pass image certificate) place.2 ∙ ap (λ x. both x (blocks_pass image certificate (drop (n + 1) blocks))) (sym (given place.0 place.1))
 
 -- a block that is refused stops the check
 pub blocks_stop : (image : ImageView) (certificate : CertificateView) (blocks : List Block) (n : ℕ) (error : CheckError) → n < length blocks
-    → ((b : Block) → slice_get blocks n ≡ Some b → IsAnswer (Err error) (block_passes image certificate b))
-    → IsAnswer (Err error) (blocks_pass image certificate (drop n blocks))
+    → ((b : Block) → slice_get blocks n ≡ Some b → Err error ≡ block_passes image certificate b)
+    → blocks_pass image certificate (drop n blocks) ≡ Err error
 unfolding blocks_pass
 blocks_stop image certificate blocks n error l given =
     let place = at_place blocks n l in
-    let refused = both_refused error (block_passes image certificate place.0) (blocks_pass image certificate (drop (n + 1) blocks)) (given place.0 place.1) in
-    rw place.2 refused
+    ap (blocks_pass image certificate) place.2
+    ∙ ap (λ x. both x (blocks_pass image certificate (drop (n + 1) blocks))) (sym (given place.0 place.1))
 
 pub blocks_none : (image : ImageView) (certificate : CertificateView) (blocks : List Block) (n : ℕ) → length blocks ≤ n
     → blocks_pass image certificate (drop n blocks) ≡ Ok tt

@@ -3,10 +3,12 @@ ghost use Rattle.std.specs.Prelude.{◌≡◌, ◌*◌, ◌^◌, ◌<◌, IfOk, 
 ghost use Rattle.block_checker.specs.Passes.{block_at as block_at_of, checked as checked_of};
 ghost use Rattle.block_checker.specs.Accepted.{IsAnswer};
 ghost use Rattle.block_checker.specs.Bound.{start_number as start_number_of};
+ghost use Rattle.block_checker.specs.Explained.{IsStopped};
 
 use crate::checks::{block_at, checked};
 use crate::errors::CheckError;
 use crate::laws::passing_runs_end;
+use crate::refused::Refused;
 use abs_domain::start_value;
 use cert_note::{Budget, Certificate};
 use elf_image::Image;
@@ -75,13 +77,65 @@ pub fn check_in<A: Allocator + Copy, B: Allocator>(
     ensures refused { IfErr result (λ e. IsAnswer (Err e.0) (checked_of image certificate vlen)) }
     ensures back { IfErr result (λ e. (e.1 ≡ image) × (e.2 ≡ certificate)) }
 {
+    match check_kept_in(alloc, image, certificate, vlen) {
+        Ok(accepted) => Ok(accepted),
+        Err(refused) => {
+            let Refused {
+                error,
+                image,
+                certificate,
+                ..
+            } = refused;
+            Err((error, image, certificate))
+        }
+    }
+}
+
+/// As [`check`]. What is refused comes back with the place at which the check stopped, and with what is known there.
+pub fn check_kept(
+    alloc: Global,
+    image: Image,
+    certificate: Certificate,
+    vlen: Vlen,
+) -> Result<Accepted, Refused>
+    ensures accepted { IfOk result
+        (λ a. (a ≡ record { image = image; certificate = certificate; vlen = vlen })
+        × (checked_of image certificate vlen ≡ Ok tt)) }
+    ensures refused { IfErr result
+        (λ r. IsAnswer (Err r.error) (checked_of image certificate vlen)) }
+    ensures stop { IfErr result (λ r. IsStopped image certificate r.error r.stop) }
+    ensures back { IfErr result (λ r. (r.image ≡ image) × (r.certificate ≡ certificate)) }
+{
+    check_kept_in(alloc, image, certificate, vlen)
+}
+
+/// As [`check_kept`], with the check's memory from any allocator.
+pub fn check_kept_in<A: Allocator + Copy, B: Allocator>(
+    alloc: A,
+    image: Image<B>,
+    certificate: Certificate<B>,
+    vlen: Vlen,
+) -> Result<Accepted<B>, Refused<A, B>>
+    ensures accepted { IfOk result
+        (λ a. (a ≡ record { image = image; certificate = certificate; vlen = vlen })
+        × (checked_of image certificate vlen ≡ Ok tt)) }
+    ensures refused { IfErr result
+        (λ r. IsAnswer (Err r.error) (checked_of image certificate vlen)) }
+    ensures stop { IfErr result (λ r. IsStopped image certificate r.error r.stop) }
+    ensures back { IfErr result (λ r. (r.image ≡ image) × (r.certificate ≡ certificate)) }
+{
     match checked(alloc, &image, &certificate, vlen) {
         Ok(()) => Ok(Accepted {
             image,
             certificate,
             vlen,
         }),
-        Err(error) => Err((error, image, certificate)),
+        Err(halt) => Err(Refused {
+            error: halt.error,
+            stop: halt.stop,
+            image,
+            certificate,
+        }),
     }
 }
 
@@ -177,19 +231,15 @@ impl<A: Allocator> Accepted<A> {
 
     /// How many instructions a run on these arguments takes at most: the number of a scalar argument stands at its place, and
     /// what stands at any other place says nothing.
-    #[tactic(auto, unfolding(crate::specs::Bound::bound_of, crate::specs::Bound::bound_in))]
+    #[tactic(auto, unfolding(crate::specs::Bound::bound_of), using(crate::proofs::Bounds::bound_by))]
     pub fn bound(&self, scalars: &[u32; 8]) -> u128
         ensures { result ≡ bound_of self.now scalars.now }
     {
-        match block_at(&self.certificate, self.image.entry()) {
-            None => 0,
-            Some(block) => {
-                let first = start_number(self.parameters(), scalars, block.budget.register);
-                let second = start_number(self.parameters(), scalars, block.budget.second_register);
-                u128::from(block.budget.constant)
-                    + times(block.budget.factor, first)
-                    + times(block.budget.second_factor, second)
-            }
-        }
+        let budget = self.budget();
+        let first = start_number(self.parameters(), scalars, budget.register);
+        let second = start_number(self.parameters(), scalars, budget.second_register);
+        u128::from(budget.constant)
+            + times(budget.factor, first)
+            + times(budget.second_factor, second)
     }
 }

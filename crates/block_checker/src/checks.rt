@@ -1,6 +1,6 @@
 //! The check, word by word and block by block.
 ghost use Rattle.std.specs.Prelude.{◌≡◌, ◌≤◌, ◌<◌, ◌+◌, ◌^◌, ◌||◌, is_some, length, option_copied};
-ghost use Rattle.std.specs.Prelude.{IsOk, Ok, Some};
+ghost use Rattle.std.specs.Prelude.{Err, IfErr, IsOk, None, Ok, Some, false, true};
 ghost use Rattle.std.specs.List.{slice_get};
 ghost use Rattle.std.specs.List.Sorted.{IsNonDecreasingBy};
 ghost use Rattle.cert_note.specs.declared.values.Block.{Block};
@@ -18,9 +18,13 @@ ghost use Rattle.block_checker.specs.Passes.{blocks_pass as blocks_pass_of};
 ghost use Rattle.block_checker.specs.Passes.{both, entry_passes as entry_passes_of};
 ghost use Rattle.block_checker.specs.Passes.{checked as checked_of};
 ghost use Rattle.block_checker.specs.Accepted.{IsAnswer};
+ghost use Rattle.block_checker.specs.Explained.{IsReached, IsStopped, is_end};
 ghost use Rattle.block_checker.specs.Walking.{IsCountBelow, is_exit, is_fork_exit, progress_of};
+ghost use Rattle.block_checker.specs.Walking.{IsFault, StopsWalk, fault_answer, halt_answer};
+ghost use Rattle.block_checker.specs.Walking.{told_of};
 
 use crate::errors::{CheckError, told};
+use crate::refused::{Halt, Kept, Part, Stop};
 use abs_state::{Abstract, Edge, MOST_WORDS, implies};
 use cert_note::{Block, Certificate};
 use elf_image::Image;
@@ -34,6 +38,15 @@ use vreg_groups::Vlen;
 pub(crate) enum Told {
     Ended,
     On,
+}
+
+/// Where the check stops in its room, with its error. What is known there is in the room.
+#[derive(Clone, Copy, PartialEq, Eq)]
+pub(crate) struct Fault {
+    pub(crate) error: CheckError,
+    pub(crate) part: Part,
+    pub(crate) pc: u32,
+    pub(crate) kept: Kept,
 }
 
 /// How many blocks begin below an address.
@@ -194,7 +207,7 @@ fn followed<A: Allocator, C: Allocator>(
     state: &Abstract<A>,
 ) -> Result<Told, CheckError>
     requires { pc + 4 < 2 ^ 32 }
-    ensures { progress_of result state.now
+    ensures { told_of result state.now
         ≡ followed_of certificate.now pc insn.now (Ok state.now) }
 {
     if !ends_block(certificate, pc, insn) {
@@ -206,65 +219,86 @@ fn followed<A: Allocator, C: Allocator>(
     }
 }
 
-/// The word at pc.
-#[tactic(auto, unfolding(crate::specs::Passes::word_passes, crate::specs::Passes::fetched, crate::specs::Passes::decoded, crate::specs::Passes::followed))]
-pub(crate) fn word_passes<A: Allocator, B: Allocator, C: Allocator>(
+/// The word at pc. Where it is refused, the answer tells whether it was taken: what is known is that before it, or behind.
+#[tactic(auto, unfolding(crate::specs::Passes::word_passes, crate::specs::Passes::fetched, crate::specs::Passes::decoded, crate::specs::Passes::followed, crate::specs::Explained::behind_word))]
+fn word_passes<A: Allocator, B: Allocator, C: Allocator>(
     image: &Image<B>,
     certificate: &Certificate<C>,
     pc: u32,
     state: &mut Abstract<A>,
-) -> Result<Told, CheckError>
+) -> Result<Told, (CheckError, Kept)>
     requires { state.old.words < MOST_WORDS }
     ensures value { progress_of result state.new
         ≡ word_passes_of image.now certificate.now pc state.old }
+    ensures kept { IfErr result (λ e. IsReached image.now pc e.1 (Some state.old) state.new) }
+    ensures word { IfErr result (λ e. is_end e.1 ≡ false) }
     ensures counts { result ≡ Ok Told.On → state.new.words ≡ state.old.words + 1 }
     ensures low { IsOk result → pc + 4 ≤ 0xC000_0000 }
 {
     let Some(word) = image.code_at(pc) else {
-        return Err(CheckError::NotCode(pc));
+        return Err((CheckError::NotCode(pc), Kept::Before));
     };
     let Some(insn) = decode(word) else {
-        return Err(CheckError::IllegalWord(pc));
+        return Err((CheckError::IllegalWord(pc), Kept::Before));
     };
     match state.after(pc, &insn) {
-        Err(why) => Err(told(why, pc)),
-        Ok(()) => followed(certificate, pc, &insn, state),
+        Err(why) => Err((told(why, pc), Kept::Before)),
+        Ok(()) => match followed(certificate, pc, &insn, state) {
+            Ok(told) => Ok(told),
+            Err(error) => Err((error, Kept::Behind)),
+        },
     }
 }
 
 /// The words of a block from its start on, with what is known there.
-#[tactic(auto, using(crate::proofs::Walks::walk_more, crate::proofs::Walks::walk_ended, crate::proofs::Walks::walk_refused, crate::proofs::Walks::walk_none))]
+#[tactic(auto, using(crate::proofs::Walks::walk_more, crate::proofs::Walks::walk_ended, crate::proofs::Walks::walk_refused, crate::proofs::Walks::walk_none, crate::proofs::Explaining::known_first, crate::proofs::Explaining::known_next))]
 fn walk<A: Allocator, B: Allocator, C: Allocator>(
     image: &Image<B>,
     certificate: &Certificate<C>,
     start: u32,
     state: &mut Abstract<A>,
-) -> Result<(), CheckError>
+) -> Result<(), Fault>
     requires { state.old.words ≡ 0 }
-    ensures { result ≡ walk_of image.now certificate.now MOST_WORDS start state.old }
+    ensures answer { fault_answer result
+        ≡ walk_of image.now certificate.now MOST_WORDS start state.old }
+    ensures stop { IfErr result (λ f.
+        StopsWalk image.now certificate.now start state.old f state.new) }
 {
     let mut pc = start;
+    let part = Part::Block(start);
     for _steps in 0..MOST_WORDS {
         match word_passes(image, certificate, pc, state) {
-            Err(error) => return Err(error),
+            Err((error, kept)) => {
+                return Err(Fault {
+                    error,
+                    part,
+                    pc,
+                    kept,
+                });
+            }
             Ok(Told::Ended) => return Ok(()),
             Ok(Told::On) => pc += 4,
         }
     }
-    Err(CheckError::BlockTooLong(pc))
+    Err(Fault {
+        error: CheckError::BlockTooLong(pc),
+        part,
+        pc,
+        kept: Kept::End,
+    })
 }
 
 /// The block at a place of the certificate's list. `state` is room for what is known: what it held is lost.
-#[tactic(auto, unfolding(crate::specs::Passes::block_passes))]
 fn block_passes<A: Allocator, B: Allocator, C: Allocator>(
     image: &Image<B>,
     certificate: &Certificate<C>,
     index: usize,
     state: &mut Abstract<A>,
-) -> Result<(), CheckError>
+) -> Result<(), Fault>
     requires { index < length certificate.now.blocks }
-    ensures { (block : Block) → slice_get certificate.now.blocks index ≡ Some block
-        → IsAnswer result (block_passes_of image.now certificate.now block) }
+    ensures answer { (block : Block) → slice_get certificate.now.blocks index ≡ Some block
+        → fault_answer result ≡ block_passes_of image.now certificate.now block }
+    ensures stop { IfErr result (λ f. IsFault image.now certificate.now f state.new) }
 {
     let start = certificate.contents().blocks[index].start;
     state.set_block(certificate, image, index);
@@ -276,51 +310,101 @@ fn blocks_pass<A: Allocator, B: Allocator, C: Allocator>(
     image: &Image<B>,
     certificate: &Certificate<C>,
     state: &mut Abstract<A>,
-) -> Result<(), CheckError>
-    ensures { IsAnswer result (blocks_pass_of image.now certificate.now certificate.now.blocks) }
+) -> Result<(), Fault>
+    ensures answer { fault_answer result
+        ≡ blocks_pass_of image.now certificate.now certificate.now.blocks }
+    ensures stop { IfErr result (λ f. IsFault image.now certificate.now f state.new) }
 {
     for index in 0..certificate.contents().blocks.len() {
-        if let Err(error) = block_passes(image, certificate, index, state) {
-            return Err(error);
+        if let Err(fault) = block_passes(image, certificate, index, state) {
+            return Err(fault);
         }
     }
     Ok(())
 }
 
-/// The entry, then each block, in room that is taken once. That a block begins at the entry is looked for before.
+/// The way from the start of a run into the block at the entry.
 #[tactic(auto, unfolding(crate::specs::Passes::entry_passes, crate::specs::Passes::entry_passes_to))]
-fn all_pass<A: Allocator + Copy, B: Allocator, C: Allocator>(
-    alloc: A,
+fn entry_passes<A: Allocator, B: Allocator, C: Allocator>(
     image: &Image<B>,
     certificate: &Certificate<C>,
-) -> Result<(), CheckError>
-    ensures { IsAnswer result (both (entry_passes_of image.now certificate.now)
-        (blocks_pass_of image.now certificate.now certificate.now.blocks)) }
+    state: &Abstract<A>,
+) -> Result<(), Fault>
+    requires state { state.now ≡ at_entry_of image.now certificate.now }
+    requires there { is_some (block_at_of image.now.entry certificate.now.blocks) ≡ true }
+    ensures answer { fault_answer result ≡ entry_passes_of image.now certificate.now }
+    ensures stop { IfErr result (λ f. IsFault image.now certificate.now f state.now) }
 {
-    if block_at(certificate, image.entry()).is_none() {
-        return Err(CheckError::NoEntryBlock);
+    let pc = image.entry();
+    match possible_passes(certificate, pc, state, false) {
+        Ok(()) => Ok(()),
+        Err(error) => Err(Fault {
+            error,
+            part: Part::Entry,
+            pc,
+            kept: Kept::Behind,
+        }),
     }
-    let Ok(mut state) = Abstract::at_entry(alloc, certificate, image) else {
-        return Err(CheckError::NoMemory);
-    };
-    if let Err(error) = possible_passes(certificate, image.entry(), &state, false) {
-        return Err(error);
-    }
-    blocks_pass(image, certificate, &mut state)
 }
 
-/// All of the check.
-#[tactic(auto, unfolding(crate::specs::Passes::checked))]
-pub(crate) fn checked<A: Allocator + Copy, B: Allocator, C: Allocator>(
+/// The entry, then each block, with `state`, where a run begins, as room.
+fn parts_pass<A: Allocator, B: Allocator, C: Allocator>(
+    image: &Image<B>,
+    certificate: &Certificate<C>,
+    state: &mut Abstract<A>,
+) -> Result<(), Fault>
+    requires state { state.old ≡ at_entry_of image.now certificate.now }
+    requires there { is_some (block_at_of image.now.entry certificate.now.blocks) ≡ true }
+    ensures answer { fault_answer result ≡ both (entry_passes_of image.now certificate.now)
+        (blocks_pass_of image.now certificate.now certificate.now.blocks) }
+    ensures stop { IfErr result (λ f. IsFault image.now certificate.now f state.new) }
+{
+    match entry_passes(image, certificate, state) {
+        Ok(()) => blocks_pass(image, certificate, state),
+        Err(fault) => Err(fault),
+    }
+}
+
+/// An error that stands at no word.
+fn nowhere<A: Allocator>(error: CheckError) -> Result<(), Halt<A>>
+    ensures { result ≡ Err record { error = error; stop = None } }
+{
+    Err(Halt { error, stop: None })
+}
+
+/// All of the check, in room that is taken once: [`check`](crate::check) of an image that stays where it is.
+///
+/// # Errors
+/// As of [`check_kept`](crate::check_kept).
+#[tactic(auto, unfolding(crate::specs::Passes::checked, crate::specs::Passes::entry_passes, crate::specs::Passes::entry_passes_to))]
+pub fn checked<A: Allocator + Copy, B: Allocator, C: Allocator>(
     alloc: A,
     image: &Image<B>,
     certificate: &Certificate<C>,
     vlen: Vlen,
-) -> Result<(), CheckError>
-    ensures { IsAnswer result (checked_of image.now certificate.now vlen) }
+) -> Result<(), Halt<A>>
+    ensures answer { IsAnswer (halt_answer result) (checked_of image.now certificate.now vlen) }
+    ensures stop { IfErr result (λ h. IsStopped image.now certificate.now h.error h.stop) }
 {
     if certificate.contents().vlen.bytes() != vlen.bytes() {
-        return Err(CheckError::WrongVlen);
+        return nowhere(CheckError::WrongVlen);
     }
-    all_pass(alloc, image, certificate)
+    if block_at(certificate, image.entry()).is_none() {
+        return nowhere(CheckError::NoEntryBlock);
+    }
+    let Ok(mut state) = Abstract::at_entry(alloc, certificate, image) else {
+        return nowhere(CheckError::NoMemory);
+    };
+    match parts_pass(image, certificate, &mut state) {
+        Ok(()) => Ok(()),
+        Err(fault) => Err(Halt {
+            error: fault.error,
+            stop: Some(Stop {
+                part: fault.part,
+                pc: fault.pc,
+                kept: fault.kept,
+                state,
+            }),
+        }),
+    }
 }

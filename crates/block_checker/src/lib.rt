@@ -4,12 +4,11 @@
 mod accepted;
 mod checks;
 mod errors;
-mod explanation;
 mod laws;
+mod refused;
 
-pub use accepted::{Accepted, check, check_in};
+pub use accepted::{Accepted, check, check_in, check_kept, check_kept_in};
+pub use checks::checked;
 pub use errors::CheckError;
-pub use explanation::{
-    Explanation, Part, Stop, explain, place_of, refused_edge, state_before, state_behind,
-};
 pub use laws::passing_runs_end;
+pub use refused::{Explanation, Halt, Kept, Part, Refused, Spot, Stop, place_of, refused_edge};

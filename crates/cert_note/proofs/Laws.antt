@@ -9,13 +9,11 @@ use Rattle.cert_note.specs.declared.refusals.CertError.TheVariants as error
 use Rattle.cert_note.specs.declared.values.Version.TheVariants.{V1, V2}
 use Rattle.std.proofs.lemmas.List.{nil_from_length}
 use Rattle.cert_note.specs.Certificate.{is_width, is_group, is_budget, is_second, is_greater, is_lesser, after_term, after_fact, after_vector, after_order, IsTerm, IsEquality, SaysMore, IsRegisterFact, IsVectorFact, IsOrderFact, IsBudgetOf, IsVtype, IsOf, IsBlock}
-use Rattle.vreg_groups.specs.VectorType.{vtype_of}
-use Rattle.std.specs.Prelude.{is_some}
 use Rattle.elf_image.specs.Words.{half, word}
 use Rattle.cert_note.specs.Spelling.{spelled_term, spelled_equality, spelled_fact, spelled_vector, spelled_order, spelled_budget, spelled_vtype, counts, spelled_block}
-use Rattle.cert_note.specs.Reading.{byte_at, number_at, zero_at, zeros_at, term_at, terms_at, sum_at, none_at, some_at, equality_at, fact_at, facts_at, group_at, vector_at, vectors_at, single_at, double_at, budget_at, known_vtype, vtype_at, few_at, order_count_at, counts_at, order_at, orders_at, block_at}
+use Rattle.cert_note.specs.Reading.{byte_at, number_at, zero_at, zeros_at, term_at, terms_at, sum_at, none_at, some_at, equality_at, fact_at, facts_at, group_at, vector_at, vectors_at, single_at, double_at, budget_at, is_vtype, vtype_at, few_at, order_count_at, counts_at, order_at, orders_at, block_at}
 use Rattle.elf_image.specs.Words.{AreBytes}
-use Rattle.cert_note.proofs.Numbers.{bind_ok, expected, found, ok_is, Takes, Takes-then, byte_takes, byte_again, half_takes, half_again, word_takes, word_again, zero_takes, zeros_takes, zeros_again, many_takes, many_again}
+use Rattle.cert_note.proofs.Numbers.{bind_ok, expected, ok_is, Takes, Takes-then, byte_takes, byte_again, half_takes, half_again, word_takes, word_again, zero_takes, zeros_takes, zeros_again, many_takes, many_again}
 
 pub chosen : {A : Type 0} (b : Bool) (x y z : A) → cond b x y ≡ z → ((b ≡ true) × (x ≡ z)) ⊎ ((b ≡ false) × (y ≡ z))
 chosen true x y z e = inl (refl, e)
@@ -27,9 +25,9 @@ pub term_takes : (params : List Param) (from : ℕ) (bytes : List ℕ) (x : Equa
 unfolding term_at spelled_term
 term_takes params from bytes x rest fits e =
     let a = bind_ok (byte_at bytes) _ (x, rest) e in
-    let p = expected _ _ _ (x, rest) a.2 in
+    let p = expected _ _ _ _ (x, rest) a.2 in
     let b = bind_ok (number_at _ a.0.1) _ (x, rest) p.1 in
-    let q = expected _ _ _ (x, rest) b.2 in
+    let q = expected _ _ _ _ (x, rest) b.2 in
     let t0 = byte_takes bytes a.0.0 a.0.1 fits a.1 in
     let t1 = word_takes a.0.1 b.0.0 b.0.1 t0.0.rest_fits b.1 in
     let made : EqualityTerm × List ℕ = (record { atom = a.0.0; coefficient = b.0.0 }, b.0.1) in
@@ -46,7 +44,7 @@ pub sum_takes : (params : List Param) (count : ℕ) (bytes : List ℕ) (x : Equa
     Takes bytes (word x.constant ++ flat_map spelled_term x.terms.items) rest × (length x.terms.items ≡ count) × IsEquality params x
 unfolding sum_at
 sum_takes params count bytes x rest fits e =
-    let p = expected _ _ _ (x, rest) e in
+    let p = expected _ _ _ _ (x, rest) e in
     let a = bind_ok (number_at _ bytes) _ (x, rest) p.1 in
     let b = bind_ok (terms_at params count 1 a.0.1) _ (x, rest) a.2 in
     let held : leb count 8 ≡ true = p.0 in
@@ -73,7 +71,7 @@ equality_takes params low high bytes x rest fits e =
     let t0 = byte_takes bytes a.0.0 a.0.1 fits a.1 in
     elim (chosen (eqb a.0.0 255) (none_at low high a.0.1) (some_at params a.0.0 a.0.1) (Ok (x, rest)) a.2) [
       | inl h ↦
-          let p = expected _ _ _ (x, rest) h.1 in
+          let p = expected _ _ _ _ (x, rest) h.1 in
           let last : a.0.0 ≡ 255 = eqb-true _ _ h.0 in
           subst (λ (y : Option Equality × List ℕ). Takes bytes (spelled_equality y.0) y.1 × SaysMore params low high y.0) (ok_is (None, a.0.1) (x, rest) p.1)
           (subst (λ (n : ℕ). Takes bytes (n ∷ []) a.0.1) last t0.0, p.0)
@@ -107,10 +105,10 @@ pub fact_takes : (params : List Param) (from : ℕ) (bytes : List ℕ) (x : Regi
 unfolding fact_at spelled_fact
 fact_takes params from bytes x rest fits e =
     let a = bind_ok (byte_at bytes) _ (x, rest) e in
-    let p = expected _ _ _ (x, rest) a.2 in
+    let p = expected _ _ _ _ (x, rest) a.2 in
     let b = bind_ok (number_at _ a.0.1) _ (x, rest) p.1 in
     let c = bind_ok (number_at _ b.0.1) _ (x, rest) b.2 in
-    let q = expected _ _ _ (x, rest) c.2 in
+    let q = expected _ _ _ _ (x, rest) c.2 in
     let d = bind_ok (equality_at params b.0.0 c.0.0 c.0.1) _ (x, rest) q.1 in
     let t0 = byte_takes bytes a.0.0 a.0.1 fits a.1 in
     let t1 = word_takes a.0.1 b.0.0 b.0.1 t0.0.rest_fits b.1 in
@@ -141,11 +139,11 @@ group_takes : (from : ℕ) (bytes : List ℕ) (x : FactGroup) (rest : List ℕ) 
 unfolding group_at
 group_takes from bytes x rest fits e =
     let a = bind_ok (byte_at bytes) _ (x, rest) e in
-    let p = expected _ _ _ (x, rest) a.2 in
+    let p = expected _ _ _ _ (x, rest) a.2 in
     let b = bind_ok (byte_at a.0.1) _ (x, rest) p.1 in
-    let q = expected _ _ _ (x, rest) b.2 in
+    let q = expected _ _ _ _ (x, rest) b.2 in
     let c = bind_ok (byte_at b.0.1) _ (x, rest) q.1 in
-    let r = expected _ _ _ (x, rest) c.2 in
+    let r = expected _ _ _ _ (x, rest) c.2 in
     let d = bind_ok (zero_at error.Fact c.0.1) _ (x, rest) r.1 in
     let t0 = byte_takes bytes a.0.0 a.0.1 fits a.1 in
     let t1 = byte_takes a.0.1 b.0.0 b.0.1 t0.0.rest_fits b.1 in
@@ -166,11 +164,11 @@ unfolding vector_at spelled_vector
 vector_takes vlen from bytes x rest fits e =
     let a = bind_ok (group_at from bytes) _ (x, rest) e in
     let b = bind_ok (number_at _ a.0.1) _ (x, rest) a.2 in
-    let p = expected _ _ _ (x, rest) b.2 in
+    let p = expected _ _ _ _ (x, rest) b.2 in
     let c = bind_ok (zeros_at error.Fact b.0.1) _ (x, rest) p.1 in
     let d = bind_ok (number_at _ c.0) _ (x, rest) c.2 in
     let f = bind_ok (number_at _ d.0.1) _ (x, rest) d.2 in
-    let q = expected _ _ _ (x, rest) f.2 in
+    let q = expected _ _ _ _ (x, rest) f.2 in
     let t0 = group_takes from bytes a.0.0 a.0.1 fits a.1 in
     let t1 = half_takes a.0.1 b.0.0 b.0.1 t0.0.rest_fits b.1 in
     let t2 = zeros_takes error.Fact b.0.1 c.0 t1.0.rest_fits c.1 in
@@ -225,7 +223,7 @@ single_takes bytes x rest fits e =
     let a = bind_ok (number_at _ bytes) _ (x, rest) e in
     let b = bind_ok (number_at _ a.0.1) _ (x, rest) a.2 in
     let c = bind_ok (byte_at b.0.1) _ (x, rest) b.2 in
-    let p = expected _ _ _ (x, rest) c.2 in
+    let p = expected _ _ _ _ (x, rest) c.2 in
     let t0 = word_takes bytes a.0.0 a.0.1 fits a.1 in
     let t1 = word_takes a.0.1 b.0.0 b.0.1 t0.0.rest_fits b.1 in
     let t2 = byte_takes b.0.1 c.0.0 c.0.1 t1.0.rest_fits c.1 in
@@ -241,11 +239,11 @@ double_takes bytes x rest fits e =
     let a = bind_ok (number_at _ bytes) _ (x, rest) e in
     let b = bind_ok (number_at _ a.0.1) _ (x, rest) a.2 in
     let c = bind_ok (number_at _ b.0.1) _ (x, rest) b.2 in
-    let p = expected (eqb c.0.0 0 || ltb 0 b.0.0) _ _ (x, rest) c.2 in
+    let p = expected (eqb c.0.0 0 || ltb 0 b.0.0) _ _ _ (x, rest) c.2 in
     let d = bind_ok (byte_at c.0.1) _ (x, rest) p.1 in
-    let q = expected (is_budget b.0.0 d.0.0) _ _ (x, rest) d.2 in
+    let q = expected (is_budget b.0.0 d.0.0) _ _ _ (x, rest) d.2 in
     let f = bind_ok (byte_at d.0.1) _ (x, rest) q.1 in
-    let s = expected (is_second b.0.0 d.0.0 c.0.0 f.0.0) _ _ (x, rest) f.2 in
+    let s = expected (is_second b.0.0 d.0.0 c.0.0 f.0.0) _ _ _ (x, rest) f.2 in
     let t0 = word_takes bytes a.0.0 a.0.1 fits a.1 in
     let t1 = word_takes a.0.1 b.0.0 b.0.1 t0.0.rest_fits b.1 in
     let t2 = word_takes b.0.1 c.0.0 c.0.1 t1.0.rest_fits c.1 in
@@ -302,36 +300,29 @@ there x = Some x
 pub some_is : {A : Type 0} (x y : A) → there x ≡ there y → x ≡ y
 some_is x y e = cc
 
-known_is : (known bits : ℕ) (v : Option ℕ) → leb known 1 ≡ true → known_vtype known bits ≡ Some v → (known ∷ bits ∷ [] ≡ spelled_vtype v) × IsVtype v
-unfolding known_vtype spelled_vtype
-known_is zero bits v le e =
-    elim (chosen (eqb bits 0) (Some None) None (Some v) e) [
-      | inl h ↦ subst (λ (w : Option ℕ). (0 ∷ bits ∷ [] ≡ spelled_vtype w) × IsVtype w) (some_is None v h.1) (ap (λ (n : ℕ). 0 ∷ n ∷ []) (eqb-true bits 0 h.0), tt)
-      | inr h ↦ absurd (let f = h.1 in cc)
-    ]
-known_is (suc zero) bits v le e =
-    elim (chosen (is_some (vtype_of bits)) (Some (Some bits)) None (Some v) e) [
-      | inl h ↦ subst (λ (w : Option ℕ). (1 ∷ bits ∷ [] ≡ spelled_vtype w) × IsVtype w) (some_is (Some bits) v h.1) (refl, h.0)
-      | inr h ↦ absurd (let f = h.1 in cc)
-    ]
-known_is (suc (suc known)) bits v le e = absurd (grind (arith, nat_tests, le))
+known_is : (known bits : ℕ) → leb known 1 ≡ true → is_vtype known bits ≡ true →
+    (known ∷ bits ∷ [] ≡ spelled_vtype (cond (eqb known 1) (Some bits) None)) × IsVtype (cond (eqb known 1) (Some bits) None)
+unfolding is_vtype spelled_vtype
+known_is zero bits le is = (ap (λ (n : ℕ). 0 ∷ n ∷ []) (eqb-true bits 0 is), tt)
+known_is (suc zero) bits le is = (refl, is)
+known_is (suc (suc known)) bits le is = absurd (grind (arith, nat_tests, le))
 
 pub vtype_takes : (bytes : List ℕ) (x : Option ℕ) (rest : List ℕ) → AreBytes bytes → vtype_at bytes ≡ Ok (x, rest) → Takes bytes (spelled_vtype x) rest × IsVtype x
 unfolding vtype_at
 vtype_takes bytes x rest fits e =
     let a = bind_ok (byte_at bytes) _ (x, rest) e in
-    let p = expected (leb a.0.0 1) _ _ (x, rest) a.2 in
+    let p = expected (leb a.0.0 1) _ _ _ (x, rest) a.2 in
     let b = bind_ok (byte_at a.0.1) _ (x, rest) p.1 in
-    let c = found (known_vtype a.0.0 b.0.0) _ _ (x, rest) b.2 in
-    let k = known_is a.0.0 b.0.0 c.0 p.0 c.1 in
+    let q = expected (is_vtype a.0.0 b.0.0) _ _ _ (x, rest) b.2 in
+    let k = known_is a.0.0 b.0.0 p.0 q.0 in
     let t0 = byte_takes bytes a.0.0 a.0.1 fits a.1 in
     let t1 = byte_takes a.0.1 b.0.0 b.0.1 t0.0.rest_fits b.1 in
     let e1 = Takes-then bytes (a.0.0 ∷ []) a.0.1 (b.0.0 ∷ []) b.0.1 t0.0 t1.0 in
-    subst (λ (y : Option ℕ × List ℕ). Takes bytes (spelled_vtype y.0) y.1 × IsVtype y.0) (ok_is (c.0, b.0.1) (x, rest) c.2)
+    subst (λ (y : Option ℕ × List ℕ). Takes bytes (spelled_vtype y.0) y.1 × IsVtype y.0) (ok_is (cond (eqb a.0.0 1) (Some b.0.0) None, b.0.1) (x, rest) q.1)
     (subst (λ (t : List ℕ). Takes bytes t b.0.1) k.0 e1, k.1)
 
 pub vtype_again : (x : Option ℕ) (rest : List ℕ) → IsVtype x → vtype_at (spelled_vtype x ++ rest) ≡ Ok (x, rest)
-unfolding vtype_at spelled_vtype byte_at known_vtype
+unfolding vtype_at spelled_vtype byte_at is_vtype
 vtype_again None rest is = refl
 vtype_again (Some vtype) rest is = rw is refl
 
@@ -339,7 +330,7 @@ few_takes : (bytes : List ℕ) (x : ℕ) (rest : List ℕ) → AreBytes bytes �
 unfolding few_at
 few_takes bytes x rest fits e =
     let a = bind_ok (byte_at bytes) _ (x, rest) e in
-    let p = expected (leb a.0.0 32) _ _ (x, rest) a.2 in
+    let p = expected (leb a.0.0 32) _ _ _ (x, rest) a.2 in
     let t0 = byte_takes bytes a.0.0 a.0.1 fits a.1 in
     let few : a.0.0 ≤ 32 = grind (arith, nat_tests, p.0) in
     subst (λ (y : ℕ × List ℕ). Takes bytes (y.0 ∷ []) y.1 × (y.0 ≤ 32)) (ok_is (a.0.0, a.0.1) (x, rest) p.1) (t0.0, few)
@@ -417,9 +408,9 @@ order_takes : (facts : List RegisterFact) (from : ℕ) (bytes : List ℕ) (x : O
 unfolding order_at spelled_order
 order_takes facts from bytes x rest fits e =
     let a = bind_ok (byte_at bytes) _ (x, rest) e in
-    let p = expected (is_greater facts from a.0.0) _ _ (x, rest) a.2 in
+    let p = expected (is_greater facts from a.0.0) _ _ _ (x, rest) a.2 in
     let b = bind_ok (byte_at a.0.1) _ (x, rest) p.1 in
-    let q = expected (is_lesser facts a.0.0 b.0.0) _ _ (x, rest) b.2 in
+    let q = expected (is_lesser facts a.0.0 b.0.0) _ _ _ (x, rest) b.2 in
     let t0 = byte_takes bytes a.0.0 a.0.1 fits a.1 in
     let t1 = byte_takes a.0.1 b.0.0 b.0.1 t0.0.rest_fits b.1 in
     let made : OrderFact × List ℕ = (record { greater = a.0.0; lesser = b.0.0 }, b.0.1) in
@@ -455,14 +446,14 @@ pub block_takes : (version : Version) (vlen : Vlen) (params : List Param) (from 
 unfolding block_at spelled_block
 block_takes version vlen params from bytes x rest fits e =
     let a = bind_ok (number_at _ bytes) _ (x, rest) e in
-    let p = expected _ _ _ (x, rest) a.2 in
+    let p = expected _ _ _ _ (x, rest) a.2 in
     let b = bind_ok (budget_at version a.0.1) _ (x, rest) p.1 in
     let c = bind_ok (vtype_at b.0.1) _ (x, rest) b.2 in
     let d = bind_ok (counts_at version c.0.1) _ (x, rest) c.2 in
     let f = bind_ok (facts_at params d.0.0.registers 1 d.0.1) _ (x, rest) d.2 in
     let g = bind_ok (vectors_at vlen d.0.0.vectors 0 f.0.1) _ (x, rest) f.2 in
     let h = bind_ok (orders_at f.0.0 d.0.0.orders 1 g.0.1) _ (x, rest) g.2 in
-    let q = expected _ _ _ (x, rest) h.2 in
+    let q = expected _ _ _ _ (x, rest) h.2 in
     let t0 = word_takes bytes a.0.0 a.0.1 fits a.1 in
     let t1 = budget_takes version a.0.1 b.0.0 b.0.1 t0.0.rest_fits b.1 in
     let t2 = vtype_takes b.0.1 c.0.0 c.0.1 t1.0.rest_fits c.1 in

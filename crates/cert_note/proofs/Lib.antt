@@ -3,3 +3,5 @@ pub mod Equated
 pub mod Numbers
 pub mod Laws
 pub mod Whole
+pub mod PlaceLemmas
+pub mod EvidenceLemmas

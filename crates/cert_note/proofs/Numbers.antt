@@ -10,34 +10,35 @@ use Rattle.std.specs.List.{flat_map}
 use Rattle.std.proofs.lemmas.Nat.{le_bytes_2, le_bytes_4, from_le_bytes-to_le_bytes_2, from_le_bytes-to_le_bytes_4}
 use Rattle.cert_note.specs.declared.refusals.CertError.{CertError}
 use Rattle.cert_note.specs.declared.refusals.CertError.TheVariants as error
+use Rattle.cert_note.specs.declared.refusals.Fault.{Fault}
 use Rattle.cert_note.specs.Certificate.{AllFrom}
 use Rattle.elf_image.specs.Words.{half, word}
 use Rattle.elf_image.specs.Words.{AreBytes}
 use Rattle.elf_image.specs.ByteLemmas.{AreBytes-rest, AreBytes-take, AreBytes-drop}
-use Rattle.cert_note.specs.Reading.{◌>>=◌, expect, One, byte_at, number_at, zero_at, zeros_at, many_at}
+use Rattle.cert_note.specs.Reading.{◌>>=◌, fault_of, expect, One, byte_at, number_at, zero_at, zeros_at, many_at}
 use Rattle.cert_note.proofs.Loop.{none, more}
 
 -- the value of a step that did not fail
-pub bind_ok : {A B : Type 0} (r : Result A CertError) (f : A → Result B CertError) (y : B) → (r >>= f) ≡ Ok y → (x : A) × (r ≡ Ok x) × (f x ≡ Ok y)
+pub bind_ok : {A B : Type 0} (r : Result A Fault) (f : A → Result B Fault) (y : B) → (r >>= f) ≡ Ok y → (x : A) × (r ≡ Ok x) × (f x ≡ Ok y)
 bind_ok (Ok x) f y e = (x, refl, e)
 bind_ok (Err d) f y e = absurd (cc)
 
 -- a condition that held
-pub expected : {B : Type 0} (b : Bool) (fault : CertError) (f : Unit {0} → Result B CertError) (y : B) → (expect b fault >>= f) ≡ Ok y → (b ≡ true) × (f tt ≡ Ok y)
-expected true fault f y e = (refl, e)
-expected false fault f y e = absurd (cc)
+pub expected : {B : Type 0} (b : Bool) (e : CertError) (behind : List ℕ) (f : Unit {0} → Result B Fault) (y : B) → (expect b e behind >>= f) ≡ Ok y → (b ≡ true) × (f tt ≡ Ok y)
+expected true e behind f y h = (refl, h)
+expected false e behind f y h = absurd (cc)
 
 -- a value that was there
-pub found : {A B : Type 0} (o : Option A) (fault : CertError) (f : A → Result B CertError) (y : B) → (ok_or o fault >>= f) ≡ Ok y → (x : A) × (o ≡ Some x) × (f x ≡ Ok y)
+pub found : {A B : Type 0} (o : Option A) (fault : Fault) (f : A → Result B Fault) (y : B) → (ok_or o fault >>= f) ≡ Ok y → (x : A) × (o ≡ Some x) × (f x ≡ Ok y)
 found (Some x) fault f y e = (x, refl, e)
 found None fault f y e = absurd (cc)
 
 -- a test that did not fail
-guard_ok : {A : Type 0} (b : Bool) (d : CertError) (x y : A) → cond b (Err d) (Ok x) ≡ Ok y → (b ≡ false) × (x ≡ y)
+guard_ok : {A : Type 0} (b : Bool) (d : Fault) (x y : A) → cond b (Err d) (Ok x) ≡ Ok y → (b ≡ false) × (x ≡ y)
 guard_ok true d x y e = absurd (cc)
 guard_ok false d x y e = (refl, cc)
 
-abbrev done : {A : Type 0} → A → Result A CertError
+abbrev done : {A : Type 0} → A → Result A Fault
 done x = Ok x
 
 pub ok_is : {A : Type 0} (x y : A) → done x ≡ done y → x ≡ y
@@ -90,7 +91,7 @@ wide32 = record {
 number_takes : (w : Width) (limit : ℕ) (wide : IsWide w limit) (bytes : List ℕ) (n : ℕ) (rest : List ℕ) → AreBytes bytes → number_at w bytes ≡ Ok (n, rest) → Takes bytes (to_le_bytes w n) rest × (n < limit)
 unfolding number_at
 number_takes w limit wide bytes n rest fits e =
-    let g = guard_ok (ltb (length bytes) (byte_len w)) error.Short (from_le_bytes w (take (byte_len w) bytes), drop (byte_len w) bytes) (n, rest) e in
+    let g = guard_ok (ltb (length bytes) (byte_len w)) (fault_of error.Short []) (from_le_bytes w (take (byte_len w) bytes), drop (byte_len w) bytes) (n, rest) e in
     let long : byte_len w ≤ length bytes = ltb-false _ _ g.0 in
     let n-is : from_le_bytes w (take (byte_len w) bytes) ≡ n = ap (λ (p : ℕ × List ℕ). p.0) g.1 in
     let rest-is : drop (byte_len w) bytes ≡ rest = ap (λ (p : ℕ × List ℕ). p.1) g.1 in
@@ -123,29 +124,29 @@ word_again n rest lt = number_again w32 (2 ^ 32) wide32 n rest lt
 -- ---- zeros
 
 -- a number that was read is zero
-blank_takes : (spelled : ℕ → List ℕ) (fault : CertError) (bytes rest : List ℕ) (read : Result (ℕ × List ℕ) CertError) →
-    ((n : ℕ) (after : List ℕ) → read ≡ Ok (n, after) → Takes bytes (spelled n) after) → (read >>= λ x. expect (eqb x.0 0) fault >>= λ _. Ok x.1) ≡ Ok rest → Takes bytes (spelled 0) rest
-blank_takes spelled fault bytes rest read takes e =
+blank_takes : (spelled : ℕ → List ℕ) (d : CertError) (bytes rest : List ℕ) (read : Result (ℕ × List ℕ) Fault) →
+    ((n : ℕ) (after : List ℕ) → read ≡ Ok (n, after) → Takes bytes (spelled n) after) → (read >>= λ x. expect (eqb x.0 0) d x.1 >>= λ _. Ok x.1) ≡ Ok rest → Takes bytes (spelled 0) rest
+blank_takes spelled d bytes rest read takes e =
     let b = bind_ok read _ rest e in
-    let x = expected (eqb b.0.0 0) fault _ rest b.2 in
+    let x = expected (eqb b.0.0 0) d _ _ rest b.2 in
     let none : b.0.0 ≡ 0 = grind (arith, nat_tests, x.0) in
     subst (λ (r : List ℕ). Takes bytes (spelled 0) r) (ok_is b.0.1 rest x.1) (subst (λ (n : ℕ). Takes bytes (spelled n) b.0.1) none (takes b.0.0 b.0.1 b.1))
 
-pub zero_takes : (fault : CertError) (bytes rest : List ℕ) → AreBytes bytes → zero_at fault bytes ≡ Ok rest → Takes bytes (0 ∷ []) rest
+pub zero_takes : (d : CertError) (bytes rest : List ℕ) → AreBytes bytes → zero_at d bytes ≡ Ok rest → Takes bytes (0 ∷ []) rest
 unfolding zero_at
-zero_takes fault bytes rest fits e = blank_takes (λ n. n ∷ []) fault bytes rest (byte_at bytes) (λ n after a. (byte_takes bytes n after fits a).0) e
+zero_takes d bytes rest fits e = blank_takes (λ n. n ∷ []) d bytes rest (byte_at bytes) (λ n after a. (byte_takes bytes n after fits a).0) e
 
-pub zero_again : (fault : CertError) (rest : List ℕ) → zero_at fault ((0 ∷ []) ++ rest) ≡ Ok rest
+pub zero_again : (d : CertError) (rest : List ℕ) → zero_at d ((0 ∷ []) ++ rest) ≡ Ok rest
 unfolding zero_at byte_at
-zero_again fault rest = refl
+zero_again d rest = refl
 
-pub zeros_takes : (fault : CertError) (bytes rest : List ℕ) → AreBytes bytes → zeros_at fault bytes ≡ Ok rest → Takes bytes (half 0) rest
+pub zeros_takes : (d : CertError) (bytes rest : List ℕ) → AreBytes bytes → zeros_at d bytes ≡ Ok rest → Takes bytes (half 0) rest
 unfolding zeros_at
-zeros_takes fault bytes rest fits e = blank_takes half fault bytes rest (number_at w16 bytes) (λ n after a. (half_takes bytes n after fits a).0) e
+zeros_takes d bytes rest fits e = blank_takes half d bytes rest (number_at w16 bytes) (λ n after a. (half_takes bytes n after fits a).0) e
 
-pub zeros_again : (fault : CertError) (rest : List ℕ) → zeros_at fault (half 0 ++ rest) ≡ Ok rest
+pub zeros_again : (d : CertError) (rest : List ℕ) → zeros_at d (half 0 ++ rest) ≡ Ok rest
 unfolding zeros_at
-zeros_again fault rest = rw (half_again 0 rest (omega arith)) refl
+zeros_again d rest = rw (half_again 0 rest (omega arith)) refl
 
 -- ---- lists
 

@@ -2,6 +2,7 @@
 use Rattle.std.specs.Prelude.{ℕ, ◌+◌, ◌*◌, ◌-◌, ◌%◌, ◌^◌, ◌==◌, Bool, true, false, ◌&&◌, ◌||◌, not, nat_le, nat_lt, is_some, List, [], ◌∷◌, length, Option, Some, None, if◌then◌else◌}
 use Rattle.std.specs.Prelude.{◌≡◌, ◌<◌, ◌≤◌, IsTrue}
 use Rattle.cert_note.specs.declared.values.Version.TheVariants.{V1, V2}
+use Rattle.cert_note.specs.declared.values.TheConstants.{PARAMETER_ATOMS, PARAMETER_ATOMS_END}
 use Rattle.std.specs.List.{list_all, list_any, slice_get, AllByRecursion}
 use Rattle.std.specs.Option.{option_map_or}
 use Rattle.cert_note.specs.Words.{Version, Param, Vlen, EqualityTerm, Budget, VectorFact, OrderFact, Equality, RegisterFact, Block, Contents}
@@ -34,8 +35,8 @@ is_scalar (parameter.Buffer mode size) = false
 unfoldable pub is_atom : List Param → ℕ → Bool
 is_atom params atom =
     (nat_le 1 atom && nat_le atom 32)
-    || (nat_le 33 atom && nat_lt atom 41
-    && option_map_or is_scalar (slice_get params (atom - 33)) false)
+    || (nat_le PARAMETER_ATOMS atom && nat_lt atom PARAMETER_ATOMS_END
+    && option_map_or is_scalar (slice_get params (atom - PARAMETER_ATOMS)) false)
 
 -- The interval holds every number of this many bits.
 unfoldable pub is_full : ℕ → ℕ → ℕ → Bool

@@ -1,4 +1,5 @@
 pub mod Words
+pub mod Values
 pub mod Certificate
 pub mod Spelling
 pub mod Reading

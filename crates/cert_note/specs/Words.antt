@@ -13,3 +13,4 @@ pub use Rattle.cert_note.specs.declared.values.Block.{Block}
 pub use Rattle.cert_note.specs.declared.values.Contents.{Contents}
 pub use Rattle.cert_note.specs.declared.values.Counts.{Counts}
 pub use Rattle.cert_note.specs.declared.values.FactGroup.{FactGroup}
+pub use Rattle.cert_note.specs.declared.values.Front.{Front}

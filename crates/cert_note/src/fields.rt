@@ -1,45 +1,50 @@
 //! Fields of a certificate that need no memory.
 ghost use Rattle.std.specs.Prelude.{◌≡◌, ◌==◌, ◌&&◌, ◌≤◌, ◌+◌, ◌%◌, ◌^◌, nat_le, IsTrue, IfOk};
-ghost use Rattle.std.specs.Prelude.{ok_or};
-ghost use Rattle.region_mem.specs.Parameter.{parameters_of};
-ghost use Rattle.cert_note.specs.declared.refusals.CertError.TheVariants.{Parameter};
 ghost use Rattle.std.specs.Int.{w16, w32};
 ghost use Rattle.cert_note.specs.Certificate.{is_width, is_group, is_count, is_interval, is_full};
 ghost use Rattle.cert_note.specs.Certificate.{is_budget, is_second, is_atom, is_scalar};
 ghost use Rattle.cert_note.specs.Reading.{Gives, expect, byte_at, number_at, zero_at, zeros_at};
-ghost use Rattle.cert_note.specs.Reading.{version_of, vlen_of, header_at, mode_of, is_first_number};
+ghost use Rattle.cert_note.specs.Reading.{version_of, vlen_of, header_at, is_mode, is_first_number};
 ghost use Rattle.cert_note.specs.Reading.{is_second_number, param_of, parameter_at, parameters_at};
 ghost use Rattle.cert_note.specs.Reading.{term_at, group_at, vector_at, single_at, double_at};
-ghost use Rattle.cert_note.specs.Reading.{budget_at, known_vtype, vtype_at, few_at, order_count_at};
-ghost use Rattle.cert_note.specs.Reading.{counts_at, count_at};
+ghost use Rattle.cert_note.specs.Reading.{budget_at, is_vtype, vtype_at, few_at, order_count_at};
+ghost use Rattle.cert_note.specs.Reading.{counts_at, count_at, front_at, nothing_at};
 
-use crate::refusals::CertError;
-use crate::values::{Budget, Counts, EqualityTerm, FactGroup, VectorFact, Version};
+use crate::refusals::{CertError, Fault, fault_of};
+use crate::values::{
+    Budget, Counts, EqualityTerm, FactGroup, Front, PARAMETER_ATOMS, PARAMETER_ATOMS_END,
+    VectorFact, Version,
+};
 use region_mem::{MAX_BUFFER_SIZE, Mode, Param, Parameters};
 use vreg_groups::{Vlen, Vtype};
 
-pub(crate) fn expect(test: bool, fault: CertError) -> Result<(), CertError>
-    ensures { Gives (λ x. x) result (expect test fault) }
+/// Whether a field that these bytes stand behind is right, and else its fault.
+pub(crate) fn expect(test: bool, error: CertError, behind: &[u8]) -> Result<(), Fault>
+    ensures { Gives (λ x. x) result (expect test error behind.now) }
 {
-    if test { Ok(()) } else { Err(fault) }
+    if test {
+        Ok(())
+    } else {
+        Err(fault_of(error, behind))
+    }
 }
 
 #[tactic(auto, unfolding(crate::specs::Reading::byte_at))]
-pub(crate) fn byte_at(bytes: &[u8]) -> Result<(u8, &[u8]), CertError>
+pub(crate) fn byte_at(bytes: &[u8]) -> Result<(u8, &[u8]), Fault>
     ensures { Gives (λ x. (x.0, x.1.now)) result (byte_at bytes.now) }
 {
     match bytes {
-        [] => Err(CertError::Short),
+        [] => Err(fault_of(CertError::Short, &[])),
         [byte, rest @ ..] => Ok((*byte, rest)),
     }
 }
 
 #[tactic(auto, unfolding(crate::specs::Reading::number_at))]
-pub(crate) fn half_at(bytes: &[u8]) -> Result<(u16, &[u8]), CertError>
+pub(crate) fn half_at(bytes: &[u8]) -> Result<(u16, &[u8]), Fault>
     ensures { Gives (λ x. (x.0, x.1.now)) result (number_at w16 bytes.now) }
 {
     if bytes.len() < 2 {
-        return Err(CertError::Short);
+        return Err(fault_of(CertError::Short, &[]));
     }
     let (front, rest) = bytes.split_at(2);
     let number = u16::from_le_bytes([front[0], front[1]]);
@@ -47,11 +52,11 @@ pub(crate) fn half_at(bytes: &[u8]) -> Result<(u16, &[u8]), CertError>
 }
 
 #[tactic(auto, unfolding(crate::specs::Reading::number_at))]
-pub(crate) fn word_at(bytes: &[u8]) -> Result<(u32, &[u8]), CertError>
+pub(crate) fn word_at(bytes: &[u8]) -> Result<(u32, &[u8]), Fault>
     ensures { Gives (λ x. (x.0, x.1.now)) result (number_at w32 bytes.now) }
 {
     if bytes.len() < 4 {
-        return Err(CertError::Short);
+        return Err(fault_of(CertError::Short, &[]));
     }
     let (front, rest) = bytes.split_at(4);
     let number = u32::from_le_bytes([front[0], front[1], front[2], front[3]]);
@@ -59,20 +64,20 @@ pub(crate) fn word_at(bytes: &[u8]) -> Result<(u32, &[u8]), CertError>
 }
 
 #[tactic(auto, unfolding(crate::specs::Reading::zero_at))]
-fn zero_at(fault: CertError, bytes: &[u8]) -> Result<&[u8], CertError>
-    ensures { Gives (λ x. x.now) result (zero_at fault bytes.now) }
+fn zero_at(error: CertError, bytes: &[u8]) -> Result<&[u8], Fault>
+    ensures { Gives (λ x. x.now) result (zero_at error bytes.now) }
 {
     let (byte, rest) = byte_at(bytes)?;
-    expect(byte == 0, fault)?;
+    expect(byte == 0, error, rest)?;
     Ok(rest)
 }
 
 #[tactic(auto, unfolding(crate::specs::Reading::zeros_at))]
-fn zeros_at(fault: CertError, bytes: &[u8]) -> Result<&[u8], CertError>
-    ensures { Gives (λ x. x.now) result (zeros_at fault bytes.now) }
+fn zeros_at(error: CertError, bytes: &[u8]) -> Result<&[u8], Fault>
+    ensures { Gives (λ x. x.now) result (zeros_at error bytes.now) }
 {
     let (number, rest) = half_at(bytes)?;
-    expect(number == 0, fault)?;
+    expect(number == 0, error, rest)?;
     Ok(rest)
 }
 
@@ -100,33 +105,25 @@ fn vlen_of(code: u8) -> Option<Vlen>
 }
 
 #[tactic(auto, unfolding(crate::specs::Reading::header_at))]
-pub(crate) fn header_at(bytes: &[u8]) -> Result<((Version, Vlen), &[u8]), CertError>
+fn header_at(bytes: &[u8]) -> Result<((Version, Vlen), &[u8]), Fault>
     ensures { Gives (λ x. (x.0, x.1.now)) result (header_at bytes.now) }
 {
     let (number, rest) = half_at(bytes)?;
-    let version = version_of(number).ok_or(CertError::Version)?;
+    let version = version_of(number).ok_or(fault_of(CertError::Version, rest))?;
     let (code, rest) = byte_at(rest)?;
-    let vlen = vlen_of(code).ok_or(CertError::Version)?;
+    let vlen = vlen_of(code).ok_or(fault_of(CertError::Version, rest))?;
     let rest = zero_at(CertError::Version, rest)?;
     Ok(((version, vlen), rest))
 }
 
-#[tactic(auto, unfolding(crate::specs::Reading::mode_of))]
-fn mode_of(kind: u8, mode: u8) -> Option<Option<Mode>>
-    ensures { result ≡ mode_of kind mode }
+#[tactic(auto, unfolding(crate::specs::Reading::is_mode))]
+fn is_mode(kind: u8, mode: u8) -> bool
+    ensures { result ≡ is_mode kind mode }
 {
     if kind == 2 {
-        if mode == 1 {
-            Some(Some(Mode::Read))
-        } else if mode == 3 {
-            Some(Some(Mode::ReadWrite))
-        } else {
-            None
-        }
-    } else if kind < 2 && mode == 0 {
-        Some(None)
+        mode == 1 || mode == 3
     } else {
-        None
+        mode == 0
     }
 }
 
@@ -151,38 +148,40 @@ fn is_second_number(kind: u8, a: u32, b: u32) -> bool
 }
 
 #[tactic(auto, unfolding(crate::specs::Reading::param_of))]
-fn param_of(kind: u8, mode: Option<Mode>, a: u32, b: u32) -> Param
+fn param_of(kind: u8, mode: u8, a: u32, b: u32) -> Param
     ensures { result ≡ param_of kind mode a b }
 {
-    match mode {
-        Some(mode) => Param::Buffer { mode, size: a },
-        None => {
-            if kind == 1 {
-                Param::Scalar { lo: a, hi: b }
-            } else {
-                Param::None
-            }
-        }
+    if kind == 2 {
+        let mode = if mode == 1 {
+            Mode::Read
+        } else {
+            Mode::ReadWrite
+        };
+        Param::Buffer { mode, size: a }
+    } else if kind == 1 {
+        Param::Scalar { lo: a, hi: b }
+    } else {
+        Param::None
     }
 }
 
 #[tactic(auto, unfolding(crate::specs::Reading::parameter_at))]
-fn parameter_at(bytes: &[u8]) -> Result<(Param, &[u8]), CertError>
+fn parameter_at(bytes: &[u8]) -> Result<(Param, &[u8]), Fault>
     ensures { Gives (λ x. (x.0, x.1.now)) result (parameter_at bytes.now) }
 {
     let (kind, rest) = byte_at(bytes)?;
-    expect(kind <= 2, CertError::Parameter)?;
-    let (code, rest) = byte_at(rest)?;
-    let mode = mode_of(kind, code).ok_or(CertError::Parameter)?;
+    expect(kind <= 2, CertError::Parameter, rest)?;
+    let (mode, rest) = byte_at(rest)?;
+    expect(is_mode(kind, mode), CertError::Parameter, rest)?;
     let rest = zeros_at(CertError::Parameter, rest)?;
     let (a, rest) = word_at(rest)?;
-    expect(is_first_number(kind, a), CertError::Parameter)?;
+    expect(is_first_number(kind, a), CertError::Parameter, rest)?;
     let (b, rest) = word_at(rest)?;
-    expect(is_second_number(kind, a, b), CertError::Parameter)?;
+    expect(is_second_number(kind, a, b), CertError::Parameter, rest)?;
     Ok((param_of(kind, mode, a, b), rest))
 }
 
-pub(crate) fn parameters_at(bytes: &[u8]) -> Result<([Param; 8], &[u8]), CertError>
+fn parameters_at(bytes: &[u8]) -> Result<([Param; 8], &[u8]), Fault>
     ensures { Gives (λ x. (x.0, x.1.now)) result (parameters_at 8 bytes.now) }
 {
     let mut params = [Param::None; 8];
@@ -193,12 +192,6 @@ pub(crate) fn parameters_at(bytes: &[u8]) -> Result<([Param; 8], &[u8]), CertErr
         rest = after;
     }
     Ok((params, rest))
-}
-
-pub(crate) fn parameters(params: [Param; 8]) -> Result<Parameters, CertError>
-    ensures { Gives (λ x. x) result (ok_or (parameters_of params) Parameter) }
-{
-    Parameters::new(params).ok_or(CertError::Parameter)
 }
 
 #[tactic(auto, unfolding(crate::specs::Certificate::is_scalar))]
@@ -218,8 +211,8 @@ fn is_atom(parameters: &Parameters, atom: u8) -> bool
     if atom <= 32 {
         return 1 <= atom;
     }
-    if atom < 41 {
-        return is_scalar(parameters.param(atom as usize - 33));
+    if PARAMETER_ATOMS <= atom && atom < PARAMETER_ATOMS_END {
+        return is_scalar(parameters.param((atom - PARAMETER_ATOMS) as usize));
     }
     false
 }
@@ -229,16 +222,17 @@ pub(crate) fn term_at<'a>(
     parameters: &Parameters,
     from: u16,
     bytes: &'a [u8],
-) -> Result<(EqualityTerm, &'a [u8]), CertError>
+) -> Result<(EqualityTerm, &'a [u8]), Fault>
     ensures { Gives (λ x. (x.0, x.1.now)) result (term_at parameters.now from bytes.now) }
 {
     let (atom, rest) = byte_at(bytes)?;
     expect(
         from <= u16::from(atom) && is_atom(parameters, atom),
         CertError::Equality,
+        rest,
     )?;
     let (coefficient, rest) = word_at(rest)?;
-    expect(0 < coefficient, CertError::Equality)?;
+    expect(0 < coefficient, CertError::Equality, rest)?;
     Ok((EqualityTerm { atom, coefficient }, rest))
 }
 
@@ -296,7 +290,7 @@ fn is_interval(width: u8, low: u32, high: u32) -> bool
 }
 
 #[tactic(auto, unfolding(crate::specs::Reading::group_at))]
-fn group_at(from: u16, bytes: &[u8]) -> Result<(FactGroup, &[u8]), CertError>
+fn group_at(from: u16, bytes: &[u8]) -> Result<(FactGroup, &[u8]), Fault>
     ensures value { Gives (λ x. (x.0, x.1.now)) result (group_at from bytes.now) }
     ensures width { IfOk result (λ x. IsTrue (is_width x.0.width)) }
 {
@@ -304,11 +298,12 @@ fn group_at(from: u16, bytes: &[u8]) -> Result<(FactGroup, &[u8]), CertError>
     expect(
         from <= u16::from(register) && register <= 31,
         CertError::Fact,
+        rest,
     )?;
     let (width, rest) = byte_at(rest)?;
-    expect(is_width(width), CertError::Fact)?;
+    expect(is_width(width), CertError::Fact, rest)?;
     let (registers, rest) = byte_at(rest)?;
-    expect(is_group(register, registers), CertError::Fact)?;
+    expect(is_group(register, registers), CertError::Fact, rest)?;
     let rest = zero_at(CertError::Fact, rest)?;
     Ok((
         FactGroup {
@@ -321,11 +316,7 @@ fn group_at(from: u16, bytes: &[u8]) -> Result<(FactGroup, &[u8]), CertError>
 }
 
 #[tactic(auto, unfolding(crate::specs::Reading::vector_at))]
-pub(crate) fn vector_at(
-    vlen: Vlen,
-    from: u16,
-    bytes: &[u8],
-) -> Result<(VectorFact, &[u8]), CertError>
+pub(crate) fn vector_at(vlen: Vlen, from: u16, bytes: &[u8]) -> Result<(VectorFact, &[u8]), Fault>
     ensures { Gives (λ x. (x.0, x.1.now)) result (vector_at vlen from bytes.now) }
 {
     let (group, rest) = group_at(from, bytes)?;
@@ -335,11 +326,15 @@ pub(crate) fn vector_at(
         registers,
     } = group;
     let (count, rest) = half_at(rest)?;
-    expect(is_count(vlen, width, registers, count), CertError::Fact)?;
+    expect(
+        is_count(vlen, width, registers, count),
+        CertError::Fact,
+        rest,
+    )?;
     let rest = zeros_at(CertError::Fact, rest)?;
     let (low, rest) = word_at(rest)?;
     let (high, rest) = word_at(rest)?;
-    expect(is_interval(width, low, high), CertError::Fact)?;
+    expect(is_interval(width, low, high), CertError::Fact, rest)?;
     let fact = VectorFact {
         register,
         width,
@@ -381,13 +376,13 @@ fn is_second(factor: u32, register: u8, second: u32, second_register: u8) -> boo
 }
 
 #[tactic(auto, unfolding(crate::specs::Reading::single_at))]
-fn single_at(bytes: &[u8]) -> Result<(Budget, &[u8]), CertError>
+fn single_at(bytes: &[u8]) -> Result<(Budget, &[u8]), Fault>
     ensures { Gives (λ x. (x.0, x.1.now)) result (single_at bytes.now) }
 {
     let (constant, rest) = word_at(bytes)?;
     let (factor, rest) = word_at(rest)?;
     let (register, rest) = byte_at(rest)?;
-    expect(is_budget(factor, register), CertError::Budget)?;
+    expect(is_budget(factor, register), CertError::Budget, rest)?;
     let budget = Budget {
         constant,
         factor,
@@ -399,19 +394,20 @@ fn single_at(bytes: &[u8]) -> Result<(Budget, &[u8]), CertError>
 }
 
 #[tactic(auto, unfolding(crate::specs::Reading::double_at))]
-fn double_at(bytes: &[u8]) -> Result<(Budget, &[u8]), CertError>
+fn double_at(bytes: &[u8]) -> Result<(Budget, &[u8]), Fault>
     ensures { Gives (λ x. (x.0, x.1.now)) result (double_at bytes.now) }
 {
     let (constant, rest) = word_at(bytes)?;
     let (factor, rest) = word_at(rest)?;
     let (second_factor, rest) = word_at(rest)?;
-    expect(second_factor == 0 || 0 < factor, CertError::Budget)?;
+    expect(second_factor == 0 || 0 < factor, CertError::Budget, rest)?;
     let (register, rest) = byte_at(rest)?;
-    expect(is_budget(factor, register), CertError::Budget)?;
+    expect(is_budget(factor, register), CertError::Budget, rest)?;
     let (second_register, rest) = byte_at(rest)?;
     expect(
         is_second(factor, register, second_factor, second_register),
         CertError::Budget,
+        rest,
     )?;
     let budget = Budget {
         constant,
@@ -424,7 +420,7 @@ fn double_at(bytes: &[u8]) -> Result<(Budget, &[u8]), CertError>
 }
 
 #[tactic(auto, unfolding(crate::specs::Reading::budget_at))]
-pub(crate) fn budget_at(version: Version, bytes: &[u8]) -> Result<(Budget, &[u8]), CertError>
+pub(crate) fn budget_at(version: Version, bytes: &[u8]) -> Result<(Budget, &[u8]), Fault>
     ensures { Gives (λ x. (x.0, x.1.now)) result (budget_at version bytes.now) }
 {
     match version {
@@ -433,47 +429,42 @@ pub(crate) fn budget_at(version: Version, bytes: &[u8]) -> Result<(Budget, &[u8]
     }
 }
 
-#[tactic(auto, unfolding(crate::specs::Reading::known_vtype))]
-fn known_vtype(known: u8, vtype: u8) -> Option<Option<u8>>
-    ensures { result ≡ known_vtype known vtype }
+#[tactic(auto, unfolding(crate::specs::Reading::is_vtype))]
+fn is_vtype(known: u8, vtype: u8) -> bool
+    ensures { result ≡ is_vtype known vtype }
 {
     if known == 1 {
-        if Vtype::from_bits(u32::from(vtype)).is_some() {
-            Some(Some(vtype))
-        } else {
-            None
-        }
-    } else if vtype == 0 {
-        Some(None)
+        Vtype::from_bits(u32::from(vtype)).is_some()
     } else {
-        None
+        vtype == 0
     }
 }
 
 #[tactic(auto, unfolding(crate::specs::Reading::vtype_at))]
-pub(crate) fn vtype_at(bytes: &[u8]) -> Result<(Option<u8>, &[u8]), CertError>
+pub(crate) fn vtype_at(bytes: &[u8]) -> Result<(Option<u8>, &[u8]), Fault>
     ensures { Gives (λ x. (x.0, x.1.now)) result (vtype_at bytes.now) }
 {
     let (known, rest) = byte_at(bytes)?;
-    expect(known <= 1, CertError::Fact)?;
-    let (bits, rest) = byte_at(rest)?;
-    let vtype = known_vtype(known, bits).ok_or(CertError::Fact)?;
+    expect(known <= 1, CertError::Fact, rest)?;
+    let (vtype, rest) = byte_at(rest)?;
+    expect(is_vtype(known, vtype), CertError::Fact, rest)?;
+    let vtype = if known == 1 { Some(vtype) } else { None };
     Ok((vtype, rest))
 }
 
 #[tactic(auto, unfolding(crate::specs::Reading::few_at))]
-fn few_at(bytes: &[u8]) -> Result<(u8, &[u8]), CertError>
+fn few_at(bytes: &[u8]) -> Result<(u8, &[u8]), Fault>
     ensures count { Gives (λ x. (x.0, x.1.now)) result (few_at bytes.now) }
     ensures few { IfOk result (λ x. x.0 ≤ 32) }
 {
     let (count, rest) = byte_at(bytes)?;
-    expect(count <= 32, CertError::TooMany)?;
+    expect(count <= 32, CertError::TooMany, rest)?;
     Ok((count, rest))
 }
 
 /// How many orders there are: in version 1 none, and zeros stand there.
 #[tactic(auto, unfolding(crate::specs::Reading::order_count_at))]
-fn order_count_at(version: Version, bytes: &[u8]) -> Result<(u8, &[u8]), CertError>
+fn order_count_at(version: Version, bytes: &[u8]) -> Result<(u8, &[u8]), Fault>
     ensures count { Gives (λ x. (x.0, x.1.now)) result (order_count_at version bytes.now) }
     ensures few { IfOk result (λ x. x.0 ≤ 32) }
 {
@@ -488,7 +479,7 @@ fn order_count_at(version: Version, bytes: &[u8]) -> Result<(u8, &[u8]), CertErr
 }
 
 #[tactic(auto, unfolding(crate::specs::Reading::counts_at))]
-pub(crate) fn counts_at(version: Version, bytes: &[u8]) -> Result<(Counts, &[u8]), CertError>
+pub(crate) fn counts_at(version: Version, bytes: &[u8]) -> Result<(Counts, &[u8]), Fault>
     ensures counts { Gives (λ x. (x.0, x.1.now)) result (counts_at version bytes.now) }
     ensures few { IfOk result (λ x. (x.0.registers ≤ 32) × (x.0.vectors ≤ 32) × (x.0.orders ≤ 32)) }
 {
@@ -505,11 +496,38 @@ pub(crate) fn counts_at(version: Version, bytes: &[u8]) -> Result<(Counts, &[u8]
 }
 
 #[tactic(auto, unfolding(crate::specs::Reading::count_at))]
-pub(crate) fn count_at(bytes: &[u8]) -> Result<(u16, &[u8]), CertError>
+fn count_at(bytes: &[u8]) -> Result<(u16, &[u8]), Fault>
     ensures { Gives (λ x. (x.0, x.1.now)) result (count_at bytes.now) }
 {
     let (count, rest) = half_at(bytes)?;
-    expect(count <= 1024, CertError::TooMany)?;
+    expect(count <= 1024, CertError::TooMany, rest)?;
     let rest = zeros_at(CertError::TooMany, rest)?;
     Ok((count, rest))
+}
+
+#[tactic(auto, unfolding(crate::specs::Reading::front_at))]
+pub(crate) fn front_at(bytes: &[u8]) -> Result<(Front, &[u8]), Fault>
+    ensures { Gives (λ x. (x.0, x.1.now)) result (front_at bytes.now) }
+{
+    let ((version, vlen), rest) = header_at(bytes)?;
+    let (params, rest) = parameters_at(rest)?;
+    let parameters = Parameters::new(params).ok_or(fault_of(CertError::Parameter, rest))?;
+    let (count, rest) = count_at(rest)?;
+    let front = Front {
+        version,
+        vlen,
+        parameters,
+        count,
+    };
+    Ok((front, rest))
+}
+
+/// Whether no bytes stand here.
+pub(crate) fn nothing_at(bytes: &[u8]) -> Result<(), Fault>
+    ensures { Gives (λ x. x) result (nothing_at bytes.now) }
+{
+    match bytes {
+        [] => Ok(()),
+        [_, rest @ ..] => Err(fault_of(CertError::TrailingBytes, rest)),
+    }
 }

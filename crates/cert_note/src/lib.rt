@@ -9,11 +9,11 @@ mod refusals;
 mod values;
 mod writing;
 
-pub use reading::{certificates_are_spellings, one_spelling, read};
-pub use refusals::CertError;
+pub use reading::{certificates_are_spellings, one_spelling, read, read_kept};
+pub use refusals::{CertError, CertRefusal};
 pub use values::{
-    Block, Budget, Certificate, Contents, Equality, EqualityTerm, OrderFact, RegisterFact,
-    VectorFact, Version,
+    Block, Budget, Certificate, Contents, Equality, EqualityTerm, OrderFact, PARAMETER_ATOMS,
+    PARAMETER_ATOMS_END, RegisterFact, VectorFact, Version, atoms_in_numbers,
 };
 pub use vreg_groups::Vlen;
 pub use writing::write;

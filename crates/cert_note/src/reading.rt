@@ -1,20 +1,21 @@
 //! Reading a certificate from its bytes.
-ghost use Rattle.std.specs.Prelude.{◌≡◌, ◌⊎◌, ◌≤◌, ◌==◌, ◌&&◌, ◌||◌, ℕ, false, not, is_some};
-ghost use Rattle.std.specs.Prelude.{slice_index_or, IfOk, IfErr, IsOk, MatchResult, Err};
+ghost use Rattle.std.specs.Prelude.{◌≡◌, ◌≤◌, ◌==◌, ◌&&◌, ◌||◌, ◌++◌, ◌∷◌, [], ℕ, false, not};
+ghost use Rattle.std.specs.Prelude.{slice_index_or, is_some, IfOk, IfErr, IfSome, IsSomeAnd};
+ghost use Rattle.std.specs.Prelude.{option_map, MatchResult, Ok, Err};
 ghost use Rattle.cert_note.specs.Spelling.{spelling};
 ghost use Rattle.cert_note.specs.SpellingLaws.{CertificatesAreSpellings};
 ghost use Rattle.std.specs.List.{list_all, list_any};
-ghost use Rattle.cert_note.specs.Certificate.{view, CertificateView, IsCertificate, is_equated};
+ghost use Rattle.cert_note.specs.Certificate.{CertificateView, IsCertificate, is_equated};
 ghost use Rattle.cert_note.specs.Certificate.{has_no_atom, is_greater, is_lesser, are_free};
-ghost use Rattle.cert_note.specs.Reading.{Gives, GivesOrNoMemory, One, rest_of, none_at};
-ghost use Rattle.cert_note.specs.Reading.{some_at, equality_at, many_at};
-ghost use Rattle.cert_note.specs.Reading.{order_at, block_at, blocks_at, certificate_of};
+ghost use Rattle.cert_note.specs.Reading.{Gives, One, none_at, some_at, equality_at, many_at};
+ghost use Rattle.cert_note.specs.Reading.{order_at, block_at, certificate_of, AreRead, StopsIn};
+ghost use Rattle.cert_note.specs.Reading.{refusal_of, IsRefusal};
 
 use crate::fields;
 use crate::fields::{byte_at, expect, word_at};
-use crate::refusals::CertError;
+use crate::refusals::{CertError, CertRefusal, Fault};
 use crate::values::{
-    Block, Budget, Certificate, Contents, Equality, EqualityTerm, OrderFact, RegisterFact,
+    Block, Budget, Certificate, Contents, Equality, EqualityTerm, Front, OrderFact, RegisterFact,
     VectorFact, Version,
 };
 use arrayvec::ArrayVec;
@@ -23,7 +24,7 @@ use std::alloc::Allocator;
 use vreg_groups::Vlen;
 
 /// What is read, and the bytes behind it.
-type Read<'a, T> = Result<(T, &'a [u8]), CertError>;
+type Read<'a, T> = Result<(T, &'a [u8]), Fault>;
 
 /// What is listed in a certificate, and is read beside a context: each item from a number on, which the one before it leaves.
 trait Item<C>: Default + Drop {
@@ -68,12 +69,12 @@ impl Item<Parameters> for RegisterFact {
     fn read<'a>(parameters: &Parameters, from: u16, bytes: &'a [u8]) -> Read<'a, Self> {
         let mut fact = RegisterFact::default();
         let (number, rest) = byte_at(bytes)?;
-        expect(from <= number as u16 && number <= 32, CertError::Fact)?;
+        expect(from <= number as u16 && number <= 32, CertError::Fact, rest)?;
         fact.number = number;
         let (low, rest) = word_at(rest)?;
         fact.low = low;
         let (high, rest) = word_at(rest)?;
-        expect(low <= high, CertError::Fact)?;
+        expect(low <= high, CertError::Fact, rest)?;
         fact.high = high;
         let rest = equality_at(parameters, low, high, rest, &mut fact.equality)?;
         Ok((fact, rest))
@@ -125,7 +126,7 @@ fn many_at<'a, C, T: Item<C>, const MOST: usize>(
     first: u16,
     bytes: &'a [u8],
     items: &mut ArrayVec<T, MOST>,
-) -> Result<&'a [u8], CertError>
+) -> Result<&'a [u8], Fault>
     requires { count ≤ MOST }
     ensures { Gives (λ x. (items.new.items, x.now)) result
         (many_at (T.one context.now) T.next count first bytes.now) }
@@ -149,10 +150,10 @@ fn none_at<'a>(
     high: u32,
     bytes: &'a [u8],
     equality: &mut Option<Equality>,
-) -> Result<&'a [u8], CertError>
+) -> Result<&'a [u8], Fault>
     ensures { Gives (λ x. (equality.new, x.now)) result (none_at low high bytes.now) }
 {
-    expect(!fields::is_full_word(low, high), CertError::Fact)?;
+    expect(!fields::is_full_word(low, high), CertError::Fact, bytes)?;
     *equality = None;
     Ok(bytes)
 }
@@ -164,10 +165,10 @@ fn some_at<'a>(
     count: u8,
     bytes: &'a [u8],
     equality: &mut Option<Equality>,
-) -> Result<&'a [u8], CertError>
+) -> Result<&'a [u8], Fault>
     ensures { Gives (λ x. (equality.new, x.now)) result (some_at parameters.now count bytes.now) }
 {
-    expect(count <= 8, CertError::Equality)?;
+    expect(count <= 8, CertError::Equality, bytes)?;
     let (constant, rest) = word_at(bytes)?;
     let mut terms = ArrayVec::new();
     let rest = many_at(parameters, count, 1, rest, &mut terms)?;
@@ -182,7 +183,7 @@ fn equality_at<'a>(
     high: u32,
     bytes: &'a [u8],
     equality: &mut Option<Equality>,
-) -> Result<&'a [u8], CertError>
+) -> Result<&'a [u8], Fault>
     ensures { Gives (λ x. (equality.new, x.now)) result
         (equality_at parameters.now low high bytes.now) }
 {
@@ -276,13 +277,13 @@ fn order_at<'a>(
     facts: &[RegisterFact],
     from: u16,
     bytes: &'a [u8],
-) -> Result<(OrderFact, &'a [u8]), CertError>
+) -> Result<(OrderFact, &'a [u8]), Fault>
     ensures { Gives (λ x. (x.0, x.1.now)) result (order_at facts.now from bytes.now) }
 {
     let (greater, rest) = byte_at(bytes)?;
-    expect(is_greater(facts, from, greater), CertError::Order)?;
+    expect(is_greater(facts, from, greater), CertError::Order, rest)?;
     let (lesser, rest) = byte_at(rest)?;
-    expect(is_lesser(facts, greater, lesser), CertError::Order)?;
+    expect(is_lesser(facts, greater, lesser), CertError::Order, rest)?;
     Ok((OrderFact { greater, lesser }, rest))
 }
 
@@ -295,12 +296,12 @@ fn block_at<'a>(
     from: u64,
     bytes: &'a [u8],
     block: &mut Block,
-) -> Result<&'a [u8], CertError>
+) -> Result<&'a [u8], Fault>
     ensures { Gives (λ x. (block.new, x.now)) result
         (block_at version vlen parameters.now from bytes.now) }
 {
     let (start, rest) = word_at(bytes)?;
-    expect(fields::is_start(from, start), CertError::BlockOrder)?;
+    expect(fields::is_start(from, start), CertError::BlockOrder, rest)?;
     block.start = start;
     let (budget, rest) = fields::budget_at(version, rest)?;
     block.budget = budget;
@@ -310,7 +311,11 @@ fn block_at<'a>(
     let rest = many_at(parameters, counts.registers, 1, rest, &mut block.registers)?;
     let rest = many_at(&vlen, counts.vectors, 0, rest, &mut block.vectors)?;
     let rest = many_at(&block.registers, counts.orders, 1, rest, &mut block.orders)?;
-    expect(are_free(block.registers.as_slice()), CertError::Equality)?;
+    expect(
+        are_free(block.registers.as_slice()),
+        CertError::Equality,
+        rest,
+    )?;
     Ok(rest)
 }
 
@@ -333,95 +338,94 @@ fn empty_block() -> Block {
     }
 }
 
-/// The bytes behind the blocks, or the first fault in them. It takes no memory: each block is read in the place of the
-/// one before it.
-fn behind_blocks<'a>(
-    version: Version,
-    vlen: Vlen,
-    parameters: &Parameters,
-    count: u16,
-    bytes: &'a [u8],
-) -> Result<&'a [u8], CertError>
-    ensures { Gives (λ x. x.now) result
-        (rest_of (blocks_at version vlen parameters.now count 0 bytes.now)) }
+/// Adds a block to those that are kept. None are kept once an allocation was refused.
+fn keep<A: Allocator>(kept: Option<Vec<Block, A>>, block: Block) -> Option<Vec<Block, A>>
+    ensures { IfSome result (λ new.
+        IsSomeAnd kept (λ old. new.items ≡ old.items ++ block ∷ [])) }
 {
-    let mut block = empty_block();
-    let mut from = 0;
-    let mut rest = bytes;
-    for _ in 0..count {
-        rest = block_at(version, vlen, parameters, from, rest, &mut block)?;
-        from = block.start as u64 + 1;
+    let mut blocks = kept?;
+    match blocks.push(block) {
+        Ok(()) => Some(blocks),
+        Err(_) => None,
     }
-    Ok(rest)
 }
 
+/// The blocks, and the bytes behind them; or the first fault in them, and the number of its block. Where memory runs out
+/// they are read on, and none are kept.
 fn blocks_at<'a, A: Allocator>(
     alloc: A,
-    version: Version,
-    vlen: Vlen,
-    parameters: &Parameters,
-    count: u16,
+    front: &Front,
     bytes: &'a [u8],
-) -> Result<(Vec<Block, A>, &'a [u8]), CertError>
-    ensures { GivesOrNoMemory (λ x. (x.0.items, x.1.now)) result
-        (blocks_at version vlen parameters.now count 0 bytes.now) }
+) -> Result<(Option<Vec<Block, A>>, &'a [u8]), (Fault, u16)>
+    ensures read { IfOk result (λ x.
+        AreRead front.now bytes.now (option_map (λ blocks. blocks.items) x.0) x.1.now) }
+    ensures refused { IfErr result (λ x. StopsIn front.now bytes.now x.0 x.1) }
 {
-    let mut blocks = Vec::with_capacity(alloc, count as usize)?;
+    let mut kept = Vec::with_capacity(alloc, front.count as usize).ok();
     let mut from = 0;
     let mut rest = bytes;
-    for _ in 0..count {
-        let block = blocks.push_mut(empty_block())?;
-        rest = block_at(version, vlen, parameters, from, rest, block)?;
+    for number in 0..front.count {
+        let mut block = empty_block();
+        rest = match block_at(
+            front.version,
+            front.vlen,
+            &front.parameters,
+            from,
+            rest,
+            &mut block,
+        ) {
+            Ok(after) => after,
+            Err(fault) => return Err((fault, number)),
+        };
         from = block.start as u64 + 1;
+        kept = keep(kept, block);
     }
-    Ok((blocks, rest))
+    Ok((kept, rest))
 }
 
-/// Whether the bytes spell a certificate, and else the first fault in them. It takes no memory.
-#[tactic(auto, unfolding(crate::specs::Reading::certificate_of))]
-fn check(bytes: &[u8]) -> Result<(), CertError>
-    ensures { MatchResult result (λ _. IsOk (certificate_of bytes.now))
-        (λ e. certificate_of bytes.now ≡ Err e) }
+/// Why bytes are no certificate, by the first fault in them and its block.
+fn refusal_of(bytes: &[u8], fault: Fault, block: Option<u16>) -> CertRefusal
+    ensures { result ≡ refusal_of bytes.now fault block }
 {
-    let ((version, vlen), rest) = fields::header_at(bytes)?;
-    let (params, rest) = fields::parameters_at(rest)?;
-    let parameters = fields::parameters(params)?;
-    let (count, rest) = fields::count_at(rest)?;
-    let rest = behind_blocks(version, vlen, &parameters, count, rest)?;
-    expect(rest.is_empty(), CertError::TrailingBytes)
-}
-
-/// What is told where reading ended with an error: where memory ran out the first fault in the bytes, if there is one.
-fn told_of(bytes: &[u8], error: CertError) -> CertError
-    requires { (error ≡ CertError.NoMemory) ⊎ (certificate_of bytes.now ≡ Err error) }
-    ensures { MatchResult (certificate_of bytes.now) (λ c. result ≡ CertError.NoMemory)
-        (λ e. result ≡ e) }
-{
-    if error != CertError::NoMemory {
-        return error;
-    }
-    match check(bytes) {
-        Ok(()) => CertError::NoMemory,
-        Err(fault) => fault,
+    CertRefusal {
+        error: fault.error,
+        block,
+        place: Some(bytes.len().saturating_sub(fault.left)),
     }
 }
 
-#[tactic(auto, unfolding(crate::specs::Reading::certificate_of))]
-fn contents_of<A: Allocator>(alloc: A, bytes: &[u8]) -> Result<Contents<A>, CertError>
-    ensures { GivesOrNoMemory view result (certificate_of bytes.now) }
+/// The certificate that `bytes` spell, as [`read`] reads it.
+///
+/// # Errors
+/// That of [`read`], with the block and the place of the first fault.
+pub fn read_kept<A: Allocator>(alloc: A, bytes: &[u8]) -> Result<Certificate<A>, CertRefusal>
+    ensures read { IfOk result (λ c. certificate_of bytes.now ≡ Ok c) }
+    ensures refused { IfErr result (IsRefusal bytes.now) }
 {
-    let ((version, vlen), rest) = fields::header_at(bytes)?;
-    let (params, rest) = fields::parameters_at(rest)?;
-    let parameters = fields::parameters(params)?;
-    let (count, rest) = fields::count_at(rest)?;
-    let (blocks, rest) = blocks_at(alloc, version, vlen, &parameters, count, rest)?;
-    expect(rest.is_empty(), CertError::TrailingBytes)?;
-    Ok(Contents {
-        version,
-        vlen,
-        parameters,
-        blocks,
-    })
+    let (front, rest) = match fields::front_at(bytes) {
+        Ok(read) => read,
+        Err(fault) => return Err(refusal_of(bytes, fault, None)),
+    };
+    let (blocks, rest) = match blocks_at(alloc, &front, rest) {
+        Ok(read) => read,
+        Err((fault, block)) => return Err(refusal_of(bytes, fault, Some(block))),
+    };
+    if let Err(fault) = fields::nothing_at(rest) {
+        return Err(refusal_of(bytes, fault, None));
+    }
+    match blocks {
+        Some(blocks) => Ok(Certificate::new(Contents {
+            version: front.version,
+            vlen: front.vlen,
+            parameters: front.parameters,
+            blocks,
+        })),
+        None => Err(CertRefusal {
+            error: CertError::NoMemory,
+            block: None,
+            place: None,
+        }),
+    }
 }
 
 /// The certificate that `bytes` spell, from the first of them to the last. `alloc` gives the memory of its blocks. The
@@ -450,8 +454,7 @@ fn contents_of<A: Allocator>(alloc: A, bytes: &[u8]) -> Result<Contents<A>, Cert
 ///      itself in this block.
 /// 5. Bytes behind the last block: `TrailingBytes`.
 ///
-/// `NoMemory` comes only where an allocation was refused and the bytes spell a certificate: where memory runs out, all of
-/// them are looked at again. Else they are read once.
+/// `NoMemory` comes only where an allocation was refused and the bytes spell a certificate. They are read once.
 pub fn read<A: Allocator>(alloc: A, bytes: &[u8]) -> Result<Certificate<A>, CertError>
     // What is read is a certificate, and is spelled so.
     ensures found { IfOk result (λ c. IsCertificate c × (bytes.now ≡ spelling c)) }
@@ -464,9 +467,9 @@ pub fn read<A: Allocator>(alloc: A, bytes: &[u8]) -> Result<Certificate<A>, Cert
     ensures read { IfOk (certificate_of bytes.now) (λ c.
         MatchResult result (λ r. r ≡ c) (λ e. e ≡ CertError.NoMemory)) }
 {
-    match contents_of(alloc, bytes) {
-        Ok(contents) => Ok(Certificate::new(contents)),
-        Err(error) => Err(told_of(bytes, error)),
+    match read_kept(alloc, bytes) {
+        Ok(certificate) => Ok(certificate),
+        Err(refusal) => Err(refusal.error),
     }
 }
 

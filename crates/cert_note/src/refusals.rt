@@ -1,9 +1,8 @@
 //! Why bytes are no certificate.
 ghost use Rattle.std.specs.Prelude.{◌≡◌};
+ghost use Rattle.cert_note.specs.Reading.{fault_of};
 ghost use Rattle.cert_note.specs.Refusals.{refusal_text};
-ghost use Rattle.cert_note.specs.declared.refusals.CertError.TheVariants.{NoMemory};
 
-use std::alloc::{AllocError, AllocFailed};
 use std::error::Error;
 use std::fmt;
 
@@ -54,6 +53,33 @@ pub enum CertError {
     NoMemory,
 }
 
+/// Why bytes are no certificate, and where reading them stopped.
+#[derive(Clone, Copy, Debug, PartialEq, Eq)]
+pub struct CertRefusal {
+    /// Why they are none.
+    pub error: CertError,
+    /// The number of the block in which the first fault lies, from 0 on. `None` where it lies in no block, and where
+    /// memory ran out.
+    pub block: Option<u16>,
+    /// How many bytes were read when the error was told: the field in question ends there. `None` where memory ran out.
+    pub place: Option<usize>,
+}
+
+/// The first fault of bytes, and how many of them stand behind the field in question.
+#[derive(Clone, Copy)]
+pub struct Fault {
+    pub error: CertError,
+    pub left: usize,
+}
+
+/// A fault of the field that these bytes stand behind.
+pub(crate) fn fault_of(error: CertError, behind: &[u8]) -> Fault
+    ensures { result ≡ fault_of error behind.now }
+{
+    let left = behind.len();
+    Fault { error, left }
+}
+
 impl CertError {
     /// Why the bytes are refused, in words.
     fn words(self) -> &'static str
@@ -87,19 +113,3 @@ impl fmt::Display for CertError {
 }
 
 impl Error for CertError {}
-
-impl From<AllocError> for CertError {
-    ghost from_gives = { λ _ e. e ≡ NoMemory };
-
-    fn from(_e: AllocError) -> CertError {
-        CertError::NoMemory
-    }
-}
-
-impl<T: Drop> From<AllocFailed<T>> for CertError {
-    ghost from_gives = { λ _ e. e ≡ NoMemory };
-
-    fn from(_e: AllocFailed<T>) -> CertError {
-        CertError::NoMemory
-    }
-}

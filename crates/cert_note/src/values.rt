@@ -1,15 +1,32 @@
 //! What a certificate states.
+ghost use Rattle.std.specs.Prelude.{◌≡◌};
+ghost use Rattle.cert_note.specs.declared.values.TheConstants.{PARAMETER_ATOMS};
+ghost use Rattle.cert_note.specs.declared.values.TheConstants.{PARAMETER_ATOMS_END};
+
 use arrayvec::ArrayVec;
 use region_mem::Parameters;
 use std::alloc::{Allocator, Global};
+use std::fmt;
 use std::marker::Model;
 use vreg_groups::Vlen;
+
+/// The atom of the first parameter.
+pub const PARAMETER_ATOMS: u8 = 33;
+
+/// The atoms of parameters lie below this.
+pub const PARAMETER_ATOMS_END: u8 = 41;
+
+/// Law: which atoms stand for parameters, in numbers.
+pub fn atoms_in_numbers()
+    ensures first { PARAMETER_ATOMS ≡ 33 }
+    ensures end { PARAMETER_ATOMS_END ≡ 41 }
+{}
 
 /// A multiple of an atom, which is a value that an equality may speak of.
 #[derive(Clone, Copy, Default, PartialEq, Eq)]
 pub struct EqualityTerm {
     /// Where the block begins, the value of a register (1 to 31: x1 to x31) or of vl (32); or the value at the start of
-    /// the run of the parameter at place j, counted from 0 (33 + j, so 33 to 40), which has to be a scalar.
+    /// the run of the parameter at place j, counted from 0 ([`PARAMETER_ATOMS`] + j), which has to be a scalar.
     pub atom: u8,
     /// What the atom is multiplied by, modulo 2^32: 2^32 - 4 stands for -4. It is not 0 in a certificate.
     pub coefficient: u32,
@@ -87,6 +104,28 @@ pub struct Budget {
     pub second_register: u8,
 }
 
+impl fmt::Display for Budget {
+    ghost use Rattle.std.specs.Prelude.{Some};
+    ghost use Rattle.cert_note.specs.Values.{budget_text};
+
+    ghost output = { λ budget. Some (budget_text budget) };
+
+    fn fmt<W: fmt::Write>(&self, f: &mut fmt::Formatter<W>) -> fmt::Result {
+        let Budget {
+            constant,
+            factor,
+            register,
+            second_factor,
+            second_register,
+        } = *self;
+        write!(f, "{constant} + {factor} * x{register}")?;
+        if second_factor == 0 {
+            return Ok(());
+        }
+        write!(f, " + {second_factor} * x{second_register}")
+    }
+}
+
 /// The value of one register, or of vl, is at most that of another where a block begins, both unsigned.
 #[derive(Clone, Copy, Default, PartialEq, Eq)]
 pub struct OrderFact {
@@ -146,6 +185,15 @@ pub struct FactGroup {
     pub register: u8,
     pub width: u8,
     pub registers: u8,
+}
+
+/// What stands before the blocks of a certificate.
+#[derive(Drop)]
+pub struct Front {
+    pub version: Version,
+    pub vlen: Vlen,
+    pub parameters: Parameters,
+    pub count: u16,
 }
 
 /// A certificate: contents that meet all conditions on certificates, which the fields of [`Contents`] and of its parts

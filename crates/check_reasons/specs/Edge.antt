@@ -9,10 +9,11 @@ use Rattle.cert_note.specs.declared.values.Budget.{Budget}
 use Rattle.elf_image.specs.Image.{ImageView}
 use Rattle.scalar_core.specs.Hart.{exit}
 use Rattle.abs_state.specs.Branches.{EdgeView}
+use Rattle.abs_state.specs.State.{AbstractView}
 use Rattle.block_checker.specs.declared.errors.CheckError.{CheckError}
-use Rattle.block_checker.specs.declared.explanation.Part.{Part}
-use Rattle.block_checker.specs.declared.explanation.Part.TheVariants as part
-use Rattle.block_checker.specs.Explained.{edge_in, place_in}
+use Rattle.block_checker.specs.declared.refused.Part.{Part}
+use Rattle.block_checker.specs.declared.refused.Part.TheVariants as part
+use Rattle.block_checker.specs.Explained.{behind_in, place_in, refused_edge}
 use Rattle.explanations.specs.Address.{address_text}
 use Rattle.check_reasons.specs.Unshown.{unshown_of, unshown_text}
 use Rattle.check_reasons.specs.declared.edge.Edge.{Edge}
@@ -65,10 +66,15 @@ edge_told certificate error part e = record {
   entered = entered_of certificate error (budget_of (left_of certificate part)) e;
 }
 
+-- what is told of the edge that is refused behind the word at pc
+unfoldable pub edge_from : CertificateView → CheckError → Part → ℕ → AbstractView → Option Edge
+edge_from certificate error part pc a =
+    option_map (edge_told certificate error part) (refused_edge certificate pc a)
+
 -- what is told where a part of the check stops at pc with this error: the edge that is refused
 unfoldable pub edge_at : ImageView → CertificateView → CheckError → Part → ℕ → Option Edge
 edge_at image certificate error part pc =
-    option_map (edge_told certificate error part) (edge_in image certificate part pc)
+    option_and_then (edge_from certificate error part pc) (behind_in image certificate part pc)
 
 -- ---- the words
 

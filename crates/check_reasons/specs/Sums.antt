@@ -4,18 +4,20 @@ use Rattle.std.specs.Fmt.{decimal}
 use Rattle.std.specs.List.{flat_map}
 use Rattle.linear_facts.specs.Forms.{Linear}
 use Rattle.linear_facts.specs.declared.forms.Term.{Term}
+use Rattle.abs_domain.specs.declared.numbers.TheConstants.{VL}
 use Rattle.explanations.specs.Address.{address_text}
+use Rattle.check_reasons.specs.declared.sums.TheConstants.{FRESH, PASSED}
 
--- a register, or vl (32)
+-- a register, or vl
 unfoldable pub name_text : ℕ → List ℕ
-name_text number = if number == 32 then codes "vl" else codes "x" ++ decimal number
+name_text number = if number == VL then codes "vl" else codes "x" ++ decimal number
 
 -- an atom: a register or vl, the number that was passed at a place, or another number
 unfoldable pub atom_text : ℕ → List ℕ
 atom_text atom =
-    if nat_lt atom 33 then name_text atom
-    else (if nat_lt atom 41 then codes "param " ++ decimal (atom - 33)
-    else codes "n" ++ decimal (atom - 41))
+    if nat_lt atom PASSED then name_text atom
+    else (if nat_lt atom FRESH then codes "param " ++ decimal (atom - PASSED)
+    else codes "n" ++ decimal (atom - FRESH))
 
 -- a coefficient from 2^31 on is told as what is taken away
 unfoldable pub term_text : Term → List ℕ

@@ -10,6 +10,7 @@ use Rattle.cert_note.specs.declared.values.VectorFact.{VectorFact}
 use Rattle.linear_facts.specs.Forms.{Linear, substituted}
 use Rattle.linear_facts.specs.declared.ranges.Range.{Range}
 use Rattle.abs_domain.specs.Starts.{equality_form}
+use Rattle.abs_domain.specs.declared.numbers.TheConstants.{VL}
 use Rattle.abs_transfer.specs.Facts.{fact_range}
 use Rattle.abs_state.specs.Branches.{EdgeView, value_on}
 use Rattle.abs_state.specs.Edges.{is_interval_shown, is_equality_shown, is_order_shown, is_vector_shown, least_of, most_of, next_total, own_total}
@@ -23,7 +24,7 @@ use Rattle.check_reasons.specs.declared.unshown.Unshown.TheVariants as unshown
 
 -- ---- what is told
 
--- a register, or vl (32), with what is known of it on the edge
+-- a register, or vl, with what is known of it on the edge
 unfoldable pub number_on : EdgeView → ℕ → Number
 number_on e register = record {
   register = register;
@@ -71,7 +72,7 @@ group_at register groups = find (λ fact. fact.register == register) groups
 abbrev pub told_vector : EdgeView → Option VectorFact → Unshown
 told_vector e None = unshown.Untold
 told_vector e (Some fact) =
-    unshown.Vector fact (group_at fact.register e.state.groups) (value_on e 32).range
+    unshown.Vector fact (group_at fact.register e.state.groups) (value_on e VL).range
 
 -- the first fact on vector registers that is not shown
 unfoldable pub unshown_vector : EdgeView → List VectorFact → Unshown
@@ -178,5 +179,5 @@ unshown_text (unshown.Equality known wanted there) =
 unshown_text (unshown.Order lesser greater) =
     number_lines lesser ++ (number_lines greater ++ wanted_order lesser.register greater.register)
 unshown_text (unshown.Vector wanted known vl) =
-    range_line 32 vl ++ (known_group known ++ wanted_group wanted)
+    range_line VL vl ++ (known_group known ++ wanted_group wanted)
 unshown_text (unshown.Budget left asked) = left_line left ++ asked_line asked

@@ -1,20 +1,20 @@
 //! Why an image is refused with its certificate: the word at which the check stopped, what was known there, and what
 //! was wanted.
 ghost use Rattle.std.specs.Prelude.{◌≡◌, IfOk, IfSome, option_map};
-ghost use Rattle.std.specs.Option.{option_and_then};
-ghost use Rattle.block_checker.specs.Explained.{Explains, answer_of, before_in};
+ghost use Rattle.block_checker.specs.Explained.{Explains, IsStopped, answer_of};
 ghost use Rattle.block_checker.specs.Passes.{checked as checked_of};
-ghost use Rattle.check_reasons.specs.Access.{reach_in as reach_in_of};
-ghost use Rattle.check_reasons.specs.Check.{IsAccess, IsEdgeWanted, IsListed, IsWanted};
+ghost use Rattle.check_reasons.specs.Check.{IsAccess, IsListed, IsWanted, IsWantedBy, IsWantedHere};
+ghost use Rattle.check_reasons.specs.Check.{explanation_of, if_edge, spot_of, state_of, word_of};
+ghost use Rattle.check_reasons.specs.Edge.{edge_from};
 
 use crate::access::{Access, operand_of, reach_in};
 use crate::edge::{Edge, edge_at};
-use abs_state::{MOST_WORDS, Reach, memory_zones};
-use block_checker::{CheckError, Explanation, Part, Stop, explain, state_before};
+use abs_state::{MOST_WORDS, memory_zones};
+use block_checker::{CheckError, Explanation, Kept, Part, Refused, Spot, Stop, checked};
 use cert_note::Certificate;
 use elf_image::Image;
 use explanations::{Address, WordLine, listed};
-use rv_decode::{Insn, decode};
+use rv_decode::decode;
 use std::alloc::{AllocError, Allocator, Global};
 use std::fmt;
 use vreg_groups::Vlen;
@@ -45,10 +45,37 @@ pub struct CheckReason<A: Allocator = Global> {
     pub wanted: Wanted,
 }
 
+/// A stop's place, with the word there.
+fn spot_of<A: Allocator, B: Allocator>(image: &Image<B>, stop: &Stop<A>) -> Spot
+    ensures { result ≡ spot_of image.now stop.now }
+{
+    Spot {
+        part: stop.part,
+        pc: stop.pc,
+        kept: stop.kept,
+        word: image.code_at(stop.pc),
+    }
+}
+
+/// An error, and the place where the check stopped.
+fn explanation_of<A: Allocator, B: Allocator>(
+    image: &Image<B>,
+    error: CheckError,
+    stop: &Option<Stop<A>>,
+) -> Explanation
+    ensures { result ≡ explanation_of image.now error stop.now }
+{
+    let stop = match stop {
+        None => None,
+        Some(stop) => Some(spot_of(image, stop)),
+    };
+    Explanation { error, stop }
+}
+
 /// The word at which a check stopped, as it is listed.
 fn listing_of<A: Allocator + Copy>(
     alloc: A,
-    stop: &Option<Stop>,
+    stop: &Option<Spot>,
 ) -> Result<Option<String<A>>, AllocError>
     ensures { IfOk result (IsListed stop.now) }
 {
@@ -64,111 +91,159 @@ fn listing_of<A: Allocator + Copy>(
     }
 }
 
-/// Where the bytes of an access at which a check stopped may lie.
-fn reach_at<A: Allocator + Copy, B: Allocator, C: Allocator>(
-    alloc: A,
+/// What an access at which a check stopped wants, by what is kept of the place before it.
+fn access_at<A: Allocator, B: Allocator, C: Allocator>(
     image: &Image<B>,
     certificate: &Certificate<C>,
-    stop: &Stop,
-    insn: &Insn,
-) -> Result<Option<Reach>, AllocError>
-    ensures { IfOk result (λ reach. reach ≡ option_and_then (reach_in_of insn.now)
-        (before_in image.now certificate.now stop.now.part stop.now.pc)) }
-{
-    match state_before(alloc, image, certificate, stop.part, stop.pc)? {
-        None => Ok(None),
-        Some(state) => Ok(reach_in(&state, insn)),
-    }
-}
-
-/// What an access at which a check stopped wants.
-fn access_at<A: Allocator + Copy, B: Allocator, C: Allocator>(
-    alloc: A,
-    image: &Image<B>,
-    certificate: &Certificate<C>,
-    stop: &Option<Stop>,
-) -> Result<Wanted, AllocError>
-    ensures { IfOk result (IsAccess image.now certificate.now stop.now) }
+    stop: &Option<Stop<A>>,
+) -> Wanted
+    ensures { IsAccess image.now certificate.now (word_of image.now stop.now) (state_of stop.now)
+        result }
 {
     let Some(stop) = stop else {
-        return Ok(Wanted::Plain);
+        return Wanted::Plain;
     };
-    let Some(word) = stop.word else {
-        return Ok(Wanted::Plain);
+    let Some(word) = image.code_at(stop.pc) else {
+        return Wanted::Plain;
     };
     let Some(insn) = decode(word) else {
-        return Ok(Wanted::Plain);
+        return Wanted::Plain;
     };
     let Some(operand) = operand_of(&insn) else {
-        return Ok(Wanted::Plain);
+        return Wanted::Plain;
     };
-    let reach = reach_at(alloc, image, certificate, stop, &insn)?;
-    Ok(Wanted::Access(Access {
+    let base = usize::from(operand.base.number());
+    Wanted::Access(Access {
         operand,
-        interval: stop.known[usize::from(operand.base.number())],
-        reach,
+        interval: stop.state.numbers().range_at(base),
+        reach: reach_in(&stop.state, &insn),
         zones: memory_zones(image, &certificate.contents().parameters),
-    }))
+    })
 }
 
-/// What a way out at which a check stopped wants.
-fn edge_wanted<A: Allocator + Copy, B: Allocator, C: Allocator>(
-    alloc: A,
-    image: &Image<B>,
-    certificate: &Certificate<C>,
-    error: CheckError,
-    stop: &Option<Stop>,
-) -> Result<Wanted, AllocError>
-    ensures { IfOk result (IsEdgeWanted image.now certificate.now error stop.now) }
-{
-    let Some(stop) = stop else {
-        return Ok(Wanted::Plain);
-    };
-    match edge_at(alloc, image, certificate, error, stop.part, stop.pc)? {
-        Some(edge) => Ok(Wanted::Edge(edge)),
-        None => Ok(Wanted::Plain),
-    }
-}
-
-/// What was wanted.
-fn wanted_of<A: Allocator + Copy, B: Allocator, C: Allocator>(
-    alloc: A,
+/// What is wanted where no way out is refused.
+fn wanted_here<A: Allocator, B: Allocator, C: Allocator>(
     image: &Image<B>,
     certificate: &Certificate<C>,
     vlen: Vlen,
-    explanation: &Explanation,
-) -> Result<Wanted, AllocError>
-    ensures { IfOk result (IsWanted image.now certificate.now vlen explanation.now) }
+    error: CheckError,
+    stop: &Option<Stop<A>>,
+) -> Wanted
+    ensures { IsWantedHere image.now certificate.now vlen error (word_of image.now stop.now)
+        (state_of stop.now) result }
 {
-    match explanation.error {
-        CheckError::WrongVlen => Ok(Wanted::Length {
+    match error {
+        CheckError::WrongVlen => Wanted::Length {
             stated: certificate.contents().vlen,
             wanted: vlen,
-        }),
-        CheckError::NoEntryBlock => Ok(Wanted::Entry(image.entry())),
+        },
+        CheckError::NoEntryBlock => Wanted::Entry(image.entry()),
         CheckError::AccessNotProved(_) | CheckError::ReadOnly(_) => {
-            access_at(alloc, image, certificate, &explanation.stop)
+            access_at(image, certificate, stop)
         }
-        CheckError::VtypeUnknown(_)
+        CheckError::NotCode(_)
+        | CheckError::IllegalWord(_)
+        | CheckError::VtypeUnknown(_)
         | CheckError::TargetNotABlock(_)
         | CheckError::IntervalNotProved(_)
         | CheckError::EqualityNotProved(_)
         | CheckError::OrderNotProved(_)
         | CheckError::VectorFactNotProved(_)
-        | CheckError::BudgetNotProved(_) => {
-            edge_wanted(
-                alloc,
-                image,
-                certificate,
-                explanation.error,
-                &explanation.stop,
-            )
-        }
-        CheckError::NotCode(_)
-        | CheckError::IllegalWord(_)
+        | CheckError::BudgetNotProved(_)
         | CheckError::BlockTooLong(_)
-        | CheckError::NoMemory => Ok(Wanted::Plain),
+        | CheckError::NoMemory => Wanted::Plain,
     }
+}
+
+/// What a way out that is refused wants, by what is kept of the place behind the word.
+fn edge_wanted<A: Allocator, C: Allocator>(
+    certificate: &Certificate<C>,
+    error: CheckError,
+    stop: &Stop<A>,
+) -> Wanted
+    ensures { result ≡ if_edge (edge_from certificate.now error stop.now.part stop.now.pc
+        stop.now.state) }
+{
+    match edge_at(certificate, error, stop.part, stop.pc, &stop.state) {
+        Some(edge) => Wanted::Edge(edge),
+        None => Wanted::Plain,
+    }
+}
+
+/// What was wanted.
+fn wanted_of<A: Allocator, B: Allocator, C: Allocator>(
+    image: &Image<B>,
+    certificate: &Certificate<C>,
+    vlen: Vlen,
+    error: CheckError,
+    stop: &Option<Stop<A>>,
+) -> Wanted
+    requires { IsStopped image.now certificate.now error stop.now }
+    ensures { IsWantedBy image.now certificate.now vlen error (option_map (spot_of image.now)
+        stop.now) result }
+{
+    match stop {
+        None => wanted_here(image, certificate, vlen, error, stop),
+        Some(at) => match at.kept {
+            Kept::Behind => edge_wanted(certificate, error, at),
+            Kept::Before | Kept::End => wanted_here(image, certificate, vlen, error, stop),
+        },
+    }
+}
+
+/// Why an image is refused with a certificate, by the error and the stop of its check.
+fn reason_at<A: Allocator + Copy, B: Allocator, C: Allocator, D: Allocator>(
+    alloc: A,
+    image: &Image<B>,
+    certificate: &Certificate<C>,
+    error: CheckError,
+    stop: &Option<Stop<D>>,
+    vlen: Vlen,
+) -> Result<CheckReason<A>, AllocError>
+    requires { IsStopped image.now certificate.now error stop.now }
+    ensures explanation { IfOk result (λ r.
+        r.explanation ≡ explanation_of image.now error stop.now) }
+    ensures listing { IfOk result (λ r. IsListed r.explanation.stop r.listing) }
+    ensures wanted { IfOk result (λ r.
+        IsWanted image.now certificate.now vlen r.explanation r.wanted) }
+{
+    let explanation = explanation_of(image, error, stop);
+    let listing = listing_of(alloc, &explanation.stop)?;
+    let wanted = wanted_of(image, certificate, vlen, error, stop);
+    Ok(CheckReason {
+        explanation,
+        listing,
+        wanted,
+    })
+}
+
+/// Why an image was refused with a certificate at a length of vector registers.
+///
+/// # Errors
+/// An allocation was refused.
+pub fn reason_of<A: Allocator + Copy, B: Allocator, C: Allocator>(
+    alloc: A,
+    refused: &Refused<B, C>,
+    vlen: Vlen,
+) -> Result<CheckReason<A>, AllocError>
+    requires { IsStopped refused.now.image refused.now.certificate refused.now.error
+        refused.now.stop }
+    ensures explanation { IfOk result (λ r.
+        r.explanation ≡ explanation_of refused.now.image refused.now.error refused.now.stop) }
+    ensures listing { IfOk result (λ r. IsListed r.explanation.stop r.listing) }
+    ensures wanted { IfOk result (λ r.
+        IsWanted refused.now.image refused.now.certificate vlen r.explanation r.wanted) }
+{
+    let image = &refused.image;
+    let certificate = &refused.certificate;
+    reason_at(
+        alloc,
+        image,
+        certificate,
+        refused.error,
+        &refused.stop,
+        vlen,
+    )
 }
 
 /// Why an image is refused with a certificate at a length of vector registers: `None` where the check accepts it.
@@ -191,24 +266,21 @@ pub fn check_reason<A: Allocator + Copy, B: Allocator, C: Allocator>(
     ensures wanted { IfOk result (λ told. IfSome told (λ r.
         IsWanted image.now certificate.now vlen r.explanation r.wanted)) }
 {
-    let told = explain(alloc, image, certificate, vlen)?;
-    match told {
-        None => Ok(None),
-        Some(explanation) => {
-            let listing = listing_of(alloc, &explanation.stop)?;
-            let wanted = wanted_of(alloc, image, certificate, vlen, &explanation)?;
-            Ok(Some(CheckReason {
-                explanation,
-                listing,
-                wanted,
-            }))
+    match checked(alloc, image, certificate, vlen) {
+        Ok(()) => Ok(None),
+        Err(halt) => {
+            if halt.error == CheckError::NoMemory {
+                return Err(AllocError);
+            }
+            let reason = reason_at(alloc, image, certificate, halt.error, &halt.stop, vlen)?;
+            Ok(Some(reason))
         }
     }
 }
 
 /// Where a check stopped, and the word there.
 #[derive(Clone, Copy)]
-struct StopLines<'a>(&'a Option<Stop>);
+struct StopLines<'a>(&'a Option<Spot>);
 
 impl fmt::Display for StopLines<'_> {
     ghost use Rattle.std.specs.Prelude.{Some};

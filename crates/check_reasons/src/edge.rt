@@ -1,18 +1,16 @@
 //! The way out of a word that the check refused: the block that it enters, and what is not shown of it.
-ghost use Rattle.std.specs.Prelude.{◌≡◌, IfOk};
-ghost use Rattle.check_reasons.specs.Edge.{budget_of};
-ghost use Rattle.check_reasons.specs.Edge.{edge_at as edge_at_of, edge_told};
+ghost use Rattle.std.specs.Prelude.{◌≡◌};
+ghost use Rattle.check_reasons.specs.Edge.{budget_of, edge_from, edge_told};
 ghost use Rattle.check_reasons.specs.Edge.{entered_at as entered_at_of};
 ghost use Rattle.check_reasons.specs.Edge.{entered_of, left_of};
 
 use crate::unshown::{Unshown, unshown_in};
-use abs_state::Edge as KnownEdge;
-use block_checker::{CheckError, Part, place_of, refused_edge, state_behind};
+use abs_state::{Abstract, Edge as KnownEdge};
+use block_checker::{CheckError, Part, place_of, refused_edge};
 use cert_note::{Budget, Certificate};
-use elf_image::Image;
 use explanations::Address;
 use scalar_core::EXIT;
-use std::alloc::{AllocError, Allocator};
+use std::alloc::Allocator;
 use std::fmt;
 
 /// The block that a way out of a word enters.
@@ -117,24 +115,20 @@ fn told<A: Allocator, C: Allocator>(
     }
 }
 
-/// The way out that is refused where a part of the check stops at pc; `None` where the word itself is refused.
-#[tactic(auto, unfolding(crate::specs::Edge::edge_at))]
-pub(crate) fn edge_at<A: Allocator + Copy, B: Allocator, C: Allocator>(
-    alloc: A,
-    image: &Image<B>,
+/// The way out of a state behind the word at pc that is refused.
+#[tactic(auto, unfolding(crate::specs::Edge::edge_from))]
+pub(crate) fn edge_at<A: Allocator, C: Allocator>(
     certificate: &Certificate<C>,
     error: CheckError,
     part: Part,
     pc: u32,
-) -> Result<Option<Edge>, AllocError>
-    ensures { IfOk result (λ edge. edge ≡ edge_at_of image.now certificate.now error part pc) }
+    state: &Abstract<A>,
+) -> Option<Edge>
+    ensures { result ≡ edge_from certificate.now error part pc state.now }
 {
-    let Some(state) = state_behind(alloc, image, certificate, part, pc)? else {
-        return Ok(None);
-    };
-    match refused_edge(certificate, pc, &state) {
-        None => Ok(None),
-        Some(way) => Ok(Some(told(certificate, error, part, &way))),
+    match refused_edge(certificate, pc, state) {
+        None => None,
+        Some(way) => Some(told(certificate, error, part, &way)),
     }
 }
 

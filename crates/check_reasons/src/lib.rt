@@ -10,7 +10,7 @@ mod sums;
 mod unshown;
 
 pub use access::{Access, Operand};
-pub use check::{CheckReason, Wanted, check_reason};
+pub use check::{CheckReason, Wanted, check_reason, reason_of};
 pub use edge::{Edge, Entered, Left};
 pub use sums::Sum;
 pub use unshown::{Number, Unshown};

@@ -12,9 +12,9 @@ use std::marker::Model;
 /// The number of vl, behind those of the registers.
 pub(crate) const VL: u8 = abs_domain::VL as u8;
 /// The first atom of what was passed, by place.
-const PASSED: u16 = 33;
+const PASSED: u16 = abs_domain::VL as u16 + 1;
 /// The first atom of what an instruction left.
-const FRESH: u16 = 41;
+const FRESH: u16 = PASSED + 8;
 
 /// A sum modulo 2^32. Its atoms are x1 to x31 and vl where a block begins, the numbers that were passed, by
 /// place, and numbers that an instruction left of which no more is known.

@@ -1,9 +1,10 @@
 -- Why bytes are no certificate: where reading stopped, and in which words it is told.
-use Rattle.std.specs.Prelude.{◌≡◌, ◌≢◌, ◌≤◌, ◌⊎◌, ℕ, ◌+◌, ◌-◌, ◌%◌, ◌/◌, ◌++◌, List, [], take, length, slice_set, codes, IfSome, Option, Some, None, Err}
+use Rattle.std.specs.Prelude.{◌≡◌, ◌≢◌, ◌⊎◌, ℕ, ◌++◌, List, [], length, codes, Option, Some, None, Err}
 use Rattle.std.specs.Fmt.{decimal}
-use Rattle.cert_note.specs.Reading.{certificate_of}
+use Rattle.cert_note.specs.Reading.{certificate_of, IsFaultBlock, IsFaultPlace}
 use Rattle.cert_note.specs.declared.refusals.CertError.{CertError}
 use Rattle.cert_note.specs.declared.refusals.CertError.TheVariants as error
+use Rattle.cert_note.specs.declared.refusals.CertRefusal.{CertRefusal}
 use Rattle.explanations.specs.declared.certificate.CertificateReason.{CertificateReason}
 
 -- reading these bytes tells this error
@@ -17,20 +18,9 @@ IsUntold bytes e = ¬ (IsTold bytes e)
 abbrev pub IsOfBytes : CertError → Type 0
 IsOfBytes e = e ≢ error.NoMemory
 
--- So many bytes are read when the error is told: they tell it, and with one less it is not told.
--- The bytes that end before a field is whole tell it there.
+-- so many bytes are read when the error is told
 abbrev pub IsPlace : List ℕ → CertError → ℕ → Type 0
-IsPlace bytes e place = (place ≤ length bytes) × (IsTold (take place bytes) e)
-    × ((IsTold [] e) ⊎ (IsUntold (take (place - 1) bytes) e))
-
--- the bytes with another count of blocks
-abbrev pub with_count : List ℕ → ℕ → List ℕ
-with_count bytes count = slice_set (slice_set bytes 100 (count % 256)) 101 (count / 256)
-
--- The blocks before this one do not tell the error, and with this one they do.
-pub record IsBlock (bytes : List ℕ) (e : CertError) (block : ℕ) : Type 0 where
-  pub before : IsUntold (with_count bytes block) e
-  pub with_it : IsTold (with_count bytes (block + 1)) e
+IsPlace = IsFaultPlace
 
 abbrev pub IfFound : (ℕ → Type 0) → Type 0 → Option ℕ → Type 0
 IfFound Found NotFound None = NotFound
@@ -44,7 +34,17 @@ pub record IsReason (bytes : List ℕ) (e : CertError) (told : CertificateReason
   pub fault : told.error ≡ e
   pub size : told.size ≡ length bytes
   pub place : (e ≡ error.NoMemory) ⊎ (IsPlaced bytes e told)
-  pub block : IfSome told.block (IsBlock bytes e)
+  pub block : IsTold bytes e → IsFaultBlock bytes told.block
+  pub untold : IsUntold bytes e → told.block ≡ None
+
+-- the reason by what reading kept
+abbrev pub reason_of : ℕ → CertRefusal → CertificateReason
+reason_of size refusal = record {
+  error = refusal.error;
+  size = size;
+  place = refusal.place;
+  block = refusal.block;
+}
 
 -- ---- the words
 

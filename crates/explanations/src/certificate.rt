@@ -1,9 +1,9 @@
 //! Why bytes are no certificate: where reading stopped, and what is wanted there.
-ghost use Rattle.std.specs.Prelude.{◌≡◌, ◌≤◌, IfOk, IfSome, IfNone, length, true, false, Err};
-ghost use Rattle.explanations.specs.Certificate.{IsBlock, IsOfBytes, IsPlace, IsReason, IsTold};
-ghost use Rattle.explanations.specs.Certificate.{IsUntold, wanted, with_count};
+ghost use Rattle.std.specs.Prelude.{◌≡◌, IfOk, length};
+ghost use Rattle.cert_note.specs.Reading.{IsRefusal};
+ghost use Rattle.explanations.specs.Certificate.{IsReason, reason_of, wanted};
 
-use cert_note::CertError;
+use cert_note::{CertError, CertRefusal};
 use std::alloc::{AllocError, Allocator};
 use std::fmt;
 
@@ -17,104 +17,25 @@ pub struct CertificateReason {
     /// How many bytes were read when the error was told: the field in question ends there. `None` where the bytes do
     /// not tell this error.
     pub place: Option<usize>,
-    /// The number of the block there, from 0 on. `None` where it is no block.
+    /// The number of the block there, from 0 on. `None` where it is no block, and where the bytes do not tell this error.
     pub block: Option<u16>,
 }
 
-/// Whether reading the bytes tells this error.
-fn tells<A: Allocator + Copy>(alloc: A, bytes: &[u8], error: CertError) -> bool
-    requires { IsOfBytes error }
-    ensures yes { result ≡ true → IsTold bytes.now error }
-    ensures no { result ≡ false → IsUntold bytes.now error }
+/// Why bytes are no certificate, by the evidence that was kept when they were read.
+pub fn refusal_reason(bytes: &[u8], refusal: CertRefusal) -> CertificateReason
+    ensures value { result ≡ reason_of (length bytes.now) refusal }
+    ensures reason { IsRefusal bytes.now refusal → IsReason bytes.now refusal.error result }
 {
-    match cert_note::read(alloc, bytes) {
-        Ok(_) => false,
-        Err(told) => told == error,
+    CertificateReason {
+        error: refusal.error,
+        size: bytes.len(),
+        place: refusal.place,
+        block: refusal.block,
     }
 }
 
-/// How many bytes are read when the error is told: with one less it is not.
-fn place_of<A: Allocator + Copy>(alloc: A, bytes: &[u8], error: CertError) -> Option<usize>
-    requires { IsOfBytes error }
-    ensures found { IfSome result (IsPlace bytes.now error) }
-    ensures none { IfNone result (IsUntold bytes.now error) }
-{
-    if !tells(alloc, bytes, error) {
-        return None;
-    }
-    if tells(alloc, &bytes[..0], error) {
-        return Some(bytes.len());
-    }
-    let mut below = 0;
-    let mut place = bytes.len();
-    while place - below > 1 {
-        let middle = below + (place - below) / 2;
-        if tells(alloc, &bytes[..middle], error) {
-            place = middle;
-        } else {
-            below = middle;
-        }
-    }
-    Some(place)
-}
-
-/// The bytes with another count of blocks.
-fn with_count<A: Allocator>(alloc: A, bytes: &[u8], count: u16) -> Result<Vec<u8, A>, AllocError>
-    requires { 102 ≤ length bytes.now }
-    ensures { IfOk result (λ copy. copy.items ≡ with_count bytes.now count) }
-{
-    let mut copy = Vec::from_slice(alloc, bytes)?;
-    copy[100] = (count % 256) as u8;
-    copy[101] = (count / 256) as u8;
-    Ok(copy)
-}
-
-/// Whether so many of the blocks tell this error, if they are all that is read.
-fn blocks_tell<A: Allocator + Copy>(
-    alloc: A,
-    bytes: &[u8],
-    count: u16,
-    error: CertError,
-) -> Result<bool, AllocError>
-    requires whole { 102 ≤ length bytes.now }
-    requires error { IsOfBytes error }
-    ensures yes { IfOk result (λ told. told ≡ true → IsTold (with_count bytes.now count) error) }
-    ensures no { IfOk result (λ told. told ≡ false → IsUntold (with_count bytes.now count) error) }
-{
-    let copy = with_count(alloc, bytes, count)?;
-    Ok(tells(alloc, copy.as_slice(), error))
-}
-
-/// The block that tells the error: with the blocks before it alone it is not told.
-fn block_of<A: Allocator + Copy>(
-    alloc: A,
-    bytes: &[u8],
-    error: CertError,
-) -> Result<Option<u16>, AllocError>
-    requires { IsOfBytes error }
-    ensures { IfOk result (λ found. IfSome found (IsBlock bytes.now error)) }
-{
-    if bytes.len() < 102 {
-        return Ok(None);
-    }
-    let count = u16::from(bytes[100]) + 256 * u16::from(bytes[101]);
-    if blocks_tell(alloc, bytes, 0, error)? || !blocks_tell(alloc, bytes, count, error)? {
-        return Ok(None);
-    }
-    let mut block = 0;
-    let mut end = count;
-    while end - block > 1 {
-        let middle = block + (end - block) / 2;
-        if blocks_tell(alloc, bytes, middle, error)? {
-            end = middle;
-        } else {
-            block = middle;
-        }
-    }
-    Ok(Some(block))
-}
-
-/// Why bytes are no certificate: where the error was told when they were read, and in which block.
+/// Why bytes are no certificate: where the error was told when they were read, and in which block. They are read again
+/// for it: [`refusal_reason`] takes what was kept.
 ///
 /// # Errors
 /// An allocation was refused.
@@ -125,22 +46,16 @@ pub fn certificate_reason<A: Allocator + Copy>(
 ) -> Result<CertificateReason, AllocError>
     ensures { IfOk result (IsReason bytes.now error) }
 {
-    let size = bytes.len();
-    if error == CertError::NoMemory {
-        return Ok(CertificateReason {
-            error,
-            size,
-            place: None,
-            block: None,
-        });
+    if let Err(refusal) = cert_note::read_kept(alloc, bytes) {
+        if refusal.error == error {
+            return Ok(refusal_reason(bytes, refusal));
+        }
     }
-    let place = place_of(alloc, bytes, error);
-    let block = block_of(alloc, bytes, error)?;
     Ok(CertificateReason {
         error,
-        size,
-        place,
-        block,
+        size: bytes.len(),
+        place: None,
+        block: None,
     })
 }
 

@@ -13,7 +13,7 @@ mod refusal;
 mod words;
 
 pub use address::Address;
-pub use certificate::{CertificateReason, certificate_reason};
+pub use certificate::{CertificateReason, certificate_reason, refusal_reason};
 pub use headers::{Header, SegmentRule};
 pub use image::{ElfField, ImageReason, image_reason};
 pub use make::{LoopRow, MakeReason, attach_reason, parameter_reason, word_reason};

@@ -1,9 +1,10 @@
 //! Why files, certificates and images are refused: those of the kernel that sums bytes, with a byte changed.
 use crate::tests::assertions::{assert_shows, found, given};
-use cert_note::{CertError, Vlen};
-use check_reasons::{CheckReason, check_reason};
-use elf_image::ElfError;
-use explanations::{certificate_reason, image_reason};
+use block_checker::check_kept;
+use cert_note::{Budget, CertError, Certificate, Vlen};
+use check_reasons::{CheckReason, check_reason, reason_of};
+use elf_image::{ElfError, Image};
+use explanations::{certificate_reason, image_reason, refusal_reason};
 use hex::decode;
 use sample_kernels::SUM;
 use std::alloc::Global;
@@ -34,31 +35,82 @@ fn tells_a_field_of_a_file(rt: HostRuntime) {
     assert_shows(rt, rt.alloc(), reason, expected);
 }
 
-/// The start of the second block is below that of the first.
+/// What is told where the start of the second block is below that of the first.
+const ORDER: &str = "  reading stopped behind byte 171 of 261
+  in block 1, counted from 0
+  wanted: a multiple of 4 above the start of the block before
+";
+
 #[test]
 fn tells_a_place_in_a_certificate(rt: HostRuntime) {
     let bytes = changed(rt, rt.alloc(), SUM.certificate, 169, 0);
     let reason = given!(rt; certificate_reason(rt.alloc(), &bytes, CertError::BlockOrder));
-    let expected = "  reading stopped behind byte 171 of 261
-  in block 1, counted from 0
-  wanted: a multiple of 4 above the start of the block before
-";
-    assert_shows(rt, rt.alloc(), reason, expected);
+    assert_shows(rt, rt.alloc(), reason, ORDER);
 }
 
-/// What is told of the kernel's file with a byte changed.
-fn told(rt: impl Abort + Copy, alloc: Global, place: usize, byte: u8) -> Option<CheckReason> {
+/// The bytes are read once.
+#[test]
+fn keeps_a_place_in_a_certificate(rt: HostRuntime) {
+    let bytes = changed(rt, rt.alloc(), SUM.certificate, 169, 0);
+    let refusal = found!(rt; cert_note::read_kept(rt.alloc(), &bytes).err());
+    assert_shows(rt, rt.alloc(), refusal_reason(&bytes, refusal), ORDER);
+}
+
+/// A byte behind the blocks lies in none of them.
+#[test]
+fn keeps_a_place_behind_a_certificate(rt: HostRuntime) {
+    let mut bytes = given!(rt; decode(rt.alloc(), SUM.certificate));
+    given!(rt; bytes.push(0));
+    let refusal = found!(rt; cert_note::read_kept(rt.alloc(), &bytes).err());
+    let expected = "  reading stopped behind byte 262 of 262
+  wanted: no bytes behind the last block
+";
+    assert_shows(rt, rt.alloc(), refusal_reason(&bytes, refusal), expected);
+}
+
+#[test]
+fn tells_a_budget(rt: HostRuntime) {
+    let budget = Budget {
+        constant: 1,
+        factor: 2,
+        register: 10,
+        second_factor: 3,
+        second_register: 11,
+    };
+    assert_shows(rt, rt.alloc(), budget, "1 + 2 * x10 + 3 * x11");
+}
+
+/// The image and the certificate of the kernel's file with a byte changed.
+fn parts(rt: impl Abort + Copy, alloc: Global, place: usize, byte: u8) -> (Image, Certificate) {
     let file = changed(rt, alloc, FILE, place, byte);
     let image = given!(rt; elf_image::read(alloc, &file));
     let bytes = given!(rt; decode(alloc, SUM.certificate));
-    let certificate = given!(rt; cert_note::read(alloc, &bytes));
+    (image, given!(rt; cert_note::read(alloc, &bytes)))
+}
+
+/// What is told of it.
+fn told(rt: impl Abort + Copy, alloc: Global, place: usize, byte: u8) -> Option<CheckReason> {
+    let (image, certificate) = parts(rt, alloc, place, byte);
     given!(rt; check_reason(alloc, &image, &certificate, Vlen::V128))
+}
+
+/// The same, by what its check kept.
+fn told_of_kept(
+    rt: impl Abort + Copy,
+    alloc: Global,
+    place: usize,
+    byte: u8,
+) -> Option<CheckReason> {
+    let (image, certificate) = parts(rt, alloc, place, byte);
+    match check_kept(alloc, image, certificate, Vlen::V128) {
+        Ok(_) => None,
+        Err(refused) => Some(given!(rt; reason_of(alloc, &refused, Vlen::V128))),
+    }
 }
 
 /// lbu t0,4(a0): the last bytes lie behind the buffer. lbu t0,0(a0), as it is: nothing is told of what passes.
 #[test]
 fn tells_a_word_of_an_image(rt: HostRuntime) {
-    let reason = found!(rt; told(rt, rt.alloc(), 90, 0x45));
     let expected = "  stopped in the block at 0x00010004
   at 0x00010004: 0x00454283
   that is lbu rd=5 rs1=10 imm=4
@@ -71,6 +123,9 @@ fn tells_a_word_of_an_image(rt: HostRuntime) {
     from 0x2fff0000 and below 0x30000000: read and write
     from 0x40000000 and below 0x40000400: read
 ";
+    let reason = found!(rt; told(rt, rt.alloc(), 90, 0x45));
+    assert_shows(rt, rt.alloc(), reason, expected);
+    let reason = found!(rt; told_of_kept(rt, rt.alloc(), 90, 0x45));
     assert_shows(rt, rt.alloc(), reason, expected);
     assert!(rt; told(rt, rt.alloc(), 90, 0x05).is_none());
 }

@@ -1,8 +1,8 @@
 //! Why images are refused: the sum of bytes with a word or a number of its certificate changed, and
-//! what is told of it. What is told of more of them is tried by `program_rows`, on tables.
-use crate::tests::assertions::{assert_same, found, given};
+//! what its check kept. What is told of more of them is tried by `program_rows`, on tables.
+use crate::tests::assertions::{assert_same, found, given, opaque};
 use crate::tests::kernels::{changed, image_of};
-use block_checker::{CheckError, Explanation, Part, Stop, explain};
+use block_checker::{CheckError, Kept, Part, Refused, Stop, check_kept};
 use cert_note::Vlen;
 use sample_kernels::SUM;
 use std::alloc::Global;
@@ -11,101 +11,111 @@ use std::process::Abort;
 /// Where the certificate states, of the first block, the second byte of the highest number of x11.
 const HIGHEST: usize = 154;
 
-/// What is told of this code, where bytes of the certificate are others.
-fn told_of(
+/// What comes back of this code, where bytes of the certificate are others.
+fn refused_of(
     rt: impl Abort + Copy,
     alloc: Global,
     code: &str,
     place: usize,
     bytes: &[u8],
     vlen: Vlen,
-) -> Option<Explanation> {
+) -> Option<Refused> {
     let bytes = changed(rt, alloc, SUM.certificate, place, bytes);
     let certificate = given!(rt; cert_note::read(alloc, &bytes));
     let image = image_of(rt, alloc, code);
-    given!(rt; explain(alloc, &image, &certificate, vlen))
+    match opaque(check_kept(alloc, image, certificate, vlen)) {
+        Ok(_) => None,
+        Err(refused) => Some(refused),
+    }
 }
 
-/// In which part a check stopped, and at which word.
-fn place_of(stop: Stop) -> (Part, Option<u32>) {
-    (stop.part, stop.word)
+/// What is kept: in which part the check stopped, of which place, the word there, and what is known of x10 and x11.
+#[derive(Clone, Copy, PartialEq, Eq)]
+struct Place {
+    part: Part,
+    kept: Kept,
+    word: Option<u32>,
+    x10: (u32, u32),
+    x11: (u32, u32),
 }
 
-/// What is told: the error, the place, which is at the error's address, and the text.
-#[derive(Clone, Copy)]
-struct Told {
-    error: CheckError,
-    place: Option<(Part, Option<u32>)>,
-    text: &'static str,
+/// What is known of a register.
+fn known(stop: &Stop, number: usize) -> (u32, u32) {
+    let ranges = stop.state.numbers().ranges();
+    match ranges.get(number) {
+        None => (0, 0),
+        Some(range) => (range.lo, range.hi),
+    }
 }
 
-/// Asserts what is told.
-fn assert_told(rt: impl Abort + Copy, alloc: Global, explanation: Option<Explanation>, told: Told) {
-    let explanation = found!(rt; explanation);
-    assert_same!(rt; explanation.error, told.error);
-    assert_same!(rt; explanation.stop.map(place_of), told.place);
-    assert_same!(rt; explanation.stop.map(|stop| stop.pc), told.error.address());
-    let came = given!(rt; format!(in alloc; "{explanation}"));
-    assert_same!(rt; came.as_str(), told.text);
+/// Asserts where a check stopped, which is at the error's address.
+fn assert_place(rt: impl Abort + Copy, refused: &Refused, place: Place) {
+    let stop = found!(rt; refused.stop.as_ref());
+    let came = Place {
+        part: stop.part,
+        kept: stop.kept,
+        word: refused.image.code_at(stop.pc),
+        x10: known(stop, 10),
+        x11: known(stop, 11),
+    };
+    assert_same!(rt; came, place);
+    assert_same!(rt; Some(stop.pc), refused.error.address());
 }
 
 /// lbu t0,4(a0): the last bytes lie behind the buffer. Without its last word the kernel runs out of
 /// its code.
 #[test]
-fn explains_words(rt: HostRuntime) {
-    for (code, error, place, text) in [
+fn keeps_what_is_known_of_words(rt: HostRuntime) {
+    let block = Place {
+        part: Part::Block(0x1_0004),
+        kept: Kept::Before,
+        word: Some(0x0045_4283),
+        x10: (0x4000_0000, 0x4000_03ff),
+        x11: (1, 0x400),
+    };
+    let end = Place {
+        part: Part::Block(0x1_0018),
+        kept: Kept::Before,
+        word: None,
+        x10: (0, u32::MAX),
+        x11: (0, u32::MAX),
+    };
+    for (code, error, place) in [
         (
             "00058c63 00454283 00150513 00560633 fff58593 fe0598e3 00008067",
             CheckError::AccessNotProved(0x1_0004),
-            (Part::Block(0x1_0004), Some(0x0045_4283)),
-            "an access is not proved at 00010004
-block 00010004, word 00454283
-x1 is fffffff0
-x10 is 40000000 to 400003ff
-x11 is 00000001 to 00000400
-the others may be anything",
+            block,
         ),
         (
             "00058c63 00054283 00150513 00560633 fff58593 fe0598e3",
             CheckError::NotCode(0x1_0018),
-            (Part::Block(0x1_0018), None),
-            "no code at 00010018
-block 00010018, no word
-x1 is fffffff0
-the others may be anything",
+            end,
         ),
     ] {
-        let came = told_of(rt, rt.alloc(), code, 0, &[], Vlen::V128);
-        let place = Some(place);
-        assert_told(rt, rt.alloc(), came, Told { error, place, text });
+        let refused = found!(rt; refused_of(rt, rt.alloc(), code, 0, &[], Vlen::V128));
+        assert_same!(rt; refused.error, error);
+        assert_place(rt, &refused, place);
     }
 }
 
 /// The number that is passed may be above what the first block states of it. Of another length no
 /// place is told, and nothing of what passes.
 #[test]
-fn explains_what_is_no_word(rt: HostRuntime) {
+fn keeps_what_is_known_of_no_word(rt: HostRuntime) {
     let alloc = rt.alloc();
-    let number = Told {
-        error: CheckError::IntervalNotProved(0x1_0000),
-        place: Some((Part::Entry, Some(0x0005_8c63))),
-        text: "an interval is not proved at 00010000
-the way into the first block, word 00058c63
-x1 is fffffff0
-x2 is 30000000
-x10 is 40000000
-x11 is 00000000 to 00000400
-the others are 0",
+    let start = Place {
+        part: Part::Entry,
+        kept: Kept::Behind,
+        word: Some(0x0005_8c63),
+        x10: (0x4000_0000, 0x4000_0000),
+        x11: (0, 0x400),
     };
-    let came = told_of(rt, alloc, SUM.code, HIGHEST, &[3], Vlen::V128);
-    assert_told(rt, alloc, came, number);
-    let length = Told {
-        error: CheckError::WrongVlen,
-        place: None,
-        text: "the certificate is for another vector length",
-    };
-    let came = told_of(rt, alloc, SUM.code, 0, &[], Vlen::V256);
-    assert_told(rt, alloc, came, length);
-    let none = told_of(rt, alloc, SUM.code, 0, &[], Vlen::V128);
+    let refused = found!(rt; refused_of(rt, alloc, SUM.code, HIGHEST, &[3], Vlen::V128));
+    assert_same!(rt; refused.error, CheckError::IntervalNotProved(0x1_0000));
+    assert_place(rt, &refused, start);
+    let refused = found!(rt; refused_of(rt, alloc, SUM.code, 0, &[], Vlen::V256));
+    assert_same!(rt; refused.error, CheckError::WrongVlen);
+    assert_same!(rt; refused.stop.is_none(), true);
+    let none = refused_of(rt, alloc, SUM.code, 0, &[], Vlen::V128);
     assert_same!(rt; none.is_none(), true);
 }

@@ -233,26 +233,32 @@ fn checked_again(
 }
 
 /// Asserts that the check of a kernel wants memory where it is refused, and accepts it or tells
-/// this fault where it isn't.
-fn expect_check(rt: impl Abort + Copy, alloc: Global, kernel: Kernel, fault: Option<CheckError>) {
+/// this fault where it isn't. Tells how many allocations it takes.
+fn expect_check(
+    rt: impl Abort + Copy,
+    alloc: Global,
+    kernel: Kernel,
+    fault: Option<CheckError>,
+) -> u64 {
     let mut kernel = parts_of(rt, alloc, kernel, Vlen::V128);
     let before = said(rt, alloc, &kernel.0, &kernel.1);
     for after in 0..MANY {
         match checked_again(rt, alloc, after, kernel, before.as_slice(), fault) {
             Some(back) => kernel = back,
-            None => return,
+            None => return after,
         }
     }
     panic!(rt; "memory is never enough")
 }
 
 /// What is known at the entry and at a block, one block after the other. The fault of the second
-/// block stands behind what is known at the entry and at the first.
+/// block stands behind what is known at the entry and at the first. To keep what is known there takes no more memory.
 #[test]
 fn checking(rt: HostRuntime) {
-    expect_check(rt, rt.alloc(), SUM, None);
+    let accepted = expect_check(rt, rt.alloc(), SUM, None);
     let fault = CheckError::ReadOnly(0x1_0004);
-    expect_check(rt, rt.alloc(), STORE, Some(fault));
+    let refused = expect_check(rt, rt.alloc(), STORE, Some(fault));
+    assert_same!(rt; refused, accepted);
 }
 
 /// The file of the sum whose entry is its third word, where no block begins.

@@ -1,21 +1,40 @@
-use Rattle.std.proofs.Common.{inr, refl}
-use Rattle.std.proofs.lemmas.Result.{err_from_is_err_and}
+use Rattle.std.proofs.Common.{◌≡◌, [], ◌∷◌, ◌++◌, ap, ◌∙◌, arith, rules}
+use Rattle.std.specs.Prelude.{is_ok}
+use Rattle.std.proofs.lemmas.Grind.{common_steps}
 use Rattle.cert_note.specs.Certificate.{after_block}
-use Rattle.cert_note.specs.Reading.{blocks_at, block_at}
-use Rattle.cert_note.proofs.Loop.{goes_on, ends, is_done}
+use Rattle.cert_note.specs.Reading.{block_at, blocks_behind}
+use Rattle.cert_note.proofs.Loop.{begins, reads_one, all_read, next_fails}
 use Rattle.cert_note.proofs.reading.blocks_at.Goals as goal
 
-pub returns-in_err-rest : goal.returns-in_err-rest
-returns-in_err-rest g c =
-    let p = err_from_is_err_and c.from_residual-in_err-rest.result c.from_residual-in_err-rest.ensures.1 in
-    rw (p.1, p.2)
-    (inr (ends (block_at c.args.version c.args.vlen c.args.parameters.now) after_block c.in_err-rest.field-0.0 c.loop.blocks.items c.args.count c.loop.counter c.loop.from c.loop.rest.now (blocks_at c.args.version c.args.vlen c.args.parameters.now c.args.count 0 c.args.bytes.now) c.loop-test.true c.in_err-rest.ensures c.loop.invariant))
+pub loop-number-init : goal.loop-number-init
+loop-number-init g c = ([], begins (block_at c.args.front.now.version c.args.front.now.vlen c.args.front.now.parameters) after_block 0 c.args.bytes.now, (search rules), (omega arith))
 
-pub loop-preserved : goal.loop-preserved
-loop-preserved g c =
-    rw (c.push_mut.follows.holds c.block_at.new.block (rw c.in_ok-block.was refl)).0
-    (goes_on (block_at c.args.version c.args.vlen c.args.parameters.now) after_block c.loop.blocks.items c.args.count c.loop.counter c.loop.from c.loop.rest.now c.block_at.new.block c.in_ok-rest.rest.now (blocks_at c.args.version c.args.vlen c.args.parameters.now c.args.count 0 c.args.bytes.now) c.loop-test.true c.in_ok-rest.ensures c.loop.invariant)
+pub returns-in-Err-clause-refused : goal.returns-in-Err-clause-refused
+returns-in-Err-clause-refused g c =
+    let one = block_at c.args.front.now.version c.args.front.now.vlen c.args.front.now.parameters in
+    let so_far = c.loop-number.invariant in
+    record {
+      among = c.loop-number-test.true;
+      before = ap is_ok (all_read one after_block 0 c.args.bytes.now so_far.0 c.loop-number.number c.loop-number.from c.loop-number.rest.now so_far.1);
+      with_it = next_fails one after_block 0 c.args.bytes.now so_far.0 c.loop-number.number c.loop-number.from c.loop-number.rest.now c.in-Err.fault c.in-Err.ensures so_far.1;
+    }
 
-pub returns : goal.returns
-returns g c =
-    is_done (block_at c.args.version c.args.vlen c.args.parameters.now) after_block c.loop.blocks.items c.args.count c.loop.counter c.loop.from c.loop.rest.now (blocks_at c.args.version c.args.vlen c.args.parameters.now c.args.count 0 c.args.bytes.now) c.loop-test.false c.loop.invariant
+pub loop-number-preserved : goal.loop-number-preserved
+loop-number-preserved g c =
+    let one = block_at c.args.front.now.version c.args.front.now.vlen c.args.front.now.parameters in
+    let so_far = c.loop-number.invariant in (
+      so_far.0 ++ c.block_at.new.block ∷ [],
+      reads_one one after_block 0 c.args.bytes.now so_far.0 c.loop-number.number c.loop-number.from c.loop-number.rest.now c.block_at.new.block c.in-Ok.after.now c.in-Ok.ensures so_far.1,
+      (let was = so_far.2 in grind (arith, common_steps)),
+      omega (arith, c.loop-number-test.true),
+    )
+
+pub returns-clause-read : goal.returns-clause-read
+returns-clause-read g c =
+    let one = block_at c.args.front.now.version c.args.front.now.vlen c.args.front.now.parameters in
+    let so_far = c.loop-number.invariant in
+    let all : c.args.front.now.count ≡ c.loop-number.number = omega (arith, c.loop-number-test.false, so_far.3) in (
+      so_far.0,
+      ap (λ k. blocks_behind c.args.front.now k c.args.bytes.now) all ∙ all_read one after_block 0 c.args.bytes.now so_far.0 c.loop-number.number c.loop-number.from c.loop-number.rest.now so_far.1,
+      (let was = so_far.2 in grind (arith, common_steps)),
+    )

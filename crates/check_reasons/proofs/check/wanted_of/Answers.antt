@@ -1,9 +1,10 @@
-use Rattle.std.proofs.Common.{rules, ap}
-use Rattle.check_reasons.specs.declared.check.Wanted.TheVariants as wanted
+-- A way out is told by what is kept behind the word.
+use Rattle.check_reasons.proofs.KeptPlaces.{behind_wanted}
 use Rattle.check_reasons.proofs.check.wanted_of.Goals as goal
 
-pub returns-in-WrongVlen : goal.returns-in-WrongVlen
-returns-in-WrongVlen g c = rw c.in-WrongVlen.is (ap (λ stated. wanted.Length stated c.args.vlen) (search rules))
-
-pub returns-in-NoEntryBlock : goal.returns-in-NoEntryBlock
-returns-in-NoEntryBlock g c = rw c.in-NoEntryBlock.is (ap wanted.Entry (search rules))
+pub returns-in-Behind : goal.returns-in-Behind
+returns-in-Behind g c =
+    let stopped = rw c.in-Some.is at c.requires in
+    rw c.in-Some.is
+    (behind_wanted c.args.image.now c.args.certificate.now c.args.vlen c.args.error c.in-Some.at c.edge_wanted.result stopped c.in-Behind.is
+    c.edge_wanted.ensures)
