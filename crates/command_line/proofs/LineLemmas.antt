@@ -1,5 +1,5 @@
 -- What `clap` takes has a subcommand with its paths.
-use Rattle.std.proofs.Common.{◌≡◌, ◌∙◌, refl, ap, subst, sym, Bool, true, false, cond, not, ◌&&◌, ◌||◌, List, [], ◌∷◌, Option, Some, None, IsSome, ℕ, ◌==◌, is_some, option_and_then, option_map, codes}
+use Rattle.std.proofs.Common.{◌≡◌, ◌∙◌, refl, ap, subst, sym, Bool, true, false, cond, not, ◌&&◌, ◌||◌, List, [], ◌∷◌, Option, Some, None, IsSome, ℕ, is_some, option_and_then, option_map, codes}
 use Rattle.std.specs.Prelude.{find, fold, unwrap_or, slice_get}
 use Rattle.std.specs.Option.{option_map_or}
 use Rattle.std.specs.Str.{bytes_eq}

@@ -9,60 +9,69 @@ use Rattle.commands.specs.Checks.{Checks, StopsCheck}
 use Rattle.commands.specs.Ending.{Ends}
 use Rattle.commands.specs.Files.{Files, OfTable, StopsOfTable}
 use Rattle.commands.specs.Makes.{Makes, StopsMake}
-use Rattle.commands.specs.Mons.{Mons, StopsMon}
+use Rattle.commands.specs.Mons.{BeforeAll, Mons, StopsMon}
 use Rattle.commands.specs.Runs.{Runs, StopsRun}
-use Rattle.commands.specs.Talks.{Exchange}
+use Rattle.commands.specs.Streams.{Exchange, IsQuiet, Stream, Wrote, change}
 use Rattle.commands.specs.Tries.{StopsTry, Tries}
 use Rattle.commands.specs.Texts.{stop_text}
-use Rattle.commands.specs.Written.{Gains, Held, Written}
-use Rattle.commands.specs.declared.stop.Ending.{Ending}
+use Rattle.commands.specs.Written.{Gains, Held}
 use Rattle.commands.specs.declared.stop.Status.{Status}
 use Rattle.commands.specs.declared.stop.Stop.{Stop}
 use Rattle.commands.specs.declared.stop.Stop.TheVariants as stop
+use Rattle.commands.specs.declared.store.TheConstants.{MOST_READS}
 use Rattle.command_line.specs.Asked.{is_help}
 use Rattle.command_line.specs.Line.{IsLineOf, app}
 use Rattle.commands.specs.declared.stop.Status.TheVariants as status
 
--- a status, where `clap` finds these faults in the words, one at least
-abbrev pub IsRefusal : Kinds → Status → Type 0
-IsRefusal kinds status.Usage = list_any (λ kind. not (is_help kind)) kinds ≡ true
-IsRefusal kinds status.Done = list_any is_help kinds ≡ true
-IsRefusal kinds status.File = list_any is_help kinds ≡ true
-IsRefusal kinds status.Memory = Unit {0}
-IsRefusal kinds other = ⊥
+-- a status, where `clap` finds these faults in the words, one at least; `cut` says that standard
+-- output took no more than the beginning of what was asked for
+abbrev pub IsRefusal : Kinds → Type 0 → Status → Type 0
+IsRefusal kinds cut status.Usage = list_any (λ kind. not (is_help kind)) kinds ≡ true
+IsRefusal kinds cut status.Done = list_any is_help kinds ≡ true
+IsRefusal kinds cut status.File = (list_any is_help kinds ≡ true) × cut
+IsRefusal kinds cut status.Memory = Unit {0}
+IsRefusal kinds cut other = ⊥
 
 -- a status, where `clap` finds these faults in the words: where it finds none, any
-abbrev pub IsStatusFor : Kinds → Status → Type 0
-IsStatusFor [] s = Unit {0}
-IsStatusFor kinds s = IsRefusal kinds s
+abbrev pub IsStatusFor : Kinds → Type 0 → Status → Type 0
+IsStatusFor [] cut s = Unit {0}
+IsStatusFor kinds cut s = IsRefusal kinds cut s
 
 -- where `clap` finds a fault in the words, no file is read or written
 abbrev pub IsUntouched : Kinds → Option Held → Option Held → Type 0
 IsUntouched [] was has = Unit {0}
 IsUntouched kinds was has = has ≡ was
 
--- what a command line's subcommand does with its paths: `e` is what is read and printed
+-- what a command line's subcommand does with its paths: `e` is what is read and printed, and `was`
+-- and `has` are the files before and after
 abbrev pub Does : Files → Line → Exchange → Option Held → Option Held → Status → Type 0
-Does files (Check image explain) e was has = Checks files image.now e.had e.has was has
+Does files (Check image explain) e was has = Checks files image.now (change was has e.had e.has)
 Does files (Run job explain registers) e was has =
-    OfTable files job.now (λ table. Runs files registers table e.had e.has was has)
+    OfTable files job.now (λ table. Runs files registers table (change was has e.had e.has))
 Does files (Try job explain registers) e was has =
-    OfTable files job.now (λ table. Tries files registers table e.had e.has was has)
+    OfTable files job.now (λ table. Tries files registers table (change was has e.had e.has))
 Does files (Mon job explain) e was has =
     OfTable files job.now (λ table. Mons files table e was has)
 Does files (Make paths explain) e was has = OfTable files paths.job.now
-    (λ table. Makes files paths.image.now paths.out.now table e.had e.has was has)
+    (λ table. Makes files paths.image.now paths.out.now table (change was has e.had e.has))
 
--- why it stops: `wrote xs` says that the files `xs` were written
-abbrev pub Stops : Files → Exchange → (Written → Type 0) → Line → Stop → Type 0
-Stops files e wrote (Check image explain) = StopsCheck files wrote image.now
-Stops files e wrote (Run job explain registers) =
-    StopsOfTable files wrote job.now (StopsRun files wrote)
-Stops files e wrote (Try job explain registers) =
-    StopsOfTable files wrote job.now (StopsTry files wrote)
-Stops files e wrote (Mon job explain) = StopsOfTable files wrote job.now (StopsMon files e wrote)
-Stops files e wrote (Make paths explain) =
-    StopsOfTable files wrote paths.job.now (StopsMake files wrote paths.image.now paths.out.now)
+-- why it stops
+abbrev pub Stops : Files → Line → Exchange → Option Held → Option Held → Stop → Type 0
+Stops files (Check image explain) e was has =
+    StopsCheck files (change was has e.had e.has) image.now
+Stops files (Run job explain registers) e was has =
+    let c = change was has e.had e.has in
+    StopsOfTable files (Wrote c) job.now (StopsRun files registers c)
+Stops files (Try job explain registers) e was has =
+    let c = change was has e.had e.has in
+    StopsOfTable files (Wrote c) job.now (StopsTry files registers c)
+Stops files (Mon job explain) e was has =
+    StopsOfTable files (BeforeAll e (Gains was has)) job.now
+    (StopsMon MOST_READS files e (Gains was has))
+Stops files (Make paths explain) e was has =
+    let c = change was has e.had e.has in
+    StopsOfTable files (Wrote c) paths.job.now
+    (StopsMake files c paths.image.now paths.out.now)
 
 -- whether it is to explain
 abbrev pub explains : Line → Bool
@@ -73,15 +82,14 @@ explains (Mon job explain) = explain
 explains (Make paths explain) = explain
 
 -- words in which `clap` finds no fault end as the subcommand does that they name, or memory runs
--- out first. `e` is what is read and printed, `was` and `has` are the files before and after, and
--- `told` and `tells` what standard error has
+-- out before anything is read or printed. `e` is what is read and printed, `was` and `has` are the
+-- files before and after, and `told` and `tells` what standard error has
 abbrev pub IsAsAsked : Files → List Text → Exchange → Option Held → Option Held
-    → Option (List ℕ) → Option (List ℕ) → Ending → Type 0
-IsAsAsked files words e was has told tells ending = fault_of app words ≡ []
-    → Ends false (λ s. ⊥) (λ reason. (reason ≡ stop.Memory) × (has ≡ was)) told tells ending
+    → Stream → Stream → Status → Type 0
+IsAsAsked files words e was has told tells s = fault_of app words ≡ []
+    → Ends false (λ done. ⊥) (λ reason. (reason ≡ stop.Memory) × (has ≡ was) × IsQuiet e) told tells s
     ⊎ ((line : Line) × IsLineOf words line
-    × Ends (explains line) (Does files line e was has) (Stops files e (Gains was has) line)
-    told tells ending)
+    × Ends (explains line) (Does files line e was has) (Stops files line e was has) told tells s)
 
 -- words that the system does not give: memory ran out, or they are not UTF-8
 abbrev pub status_without_words : IoErrorKind → Status

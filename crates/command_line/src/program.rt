@@ -1,71 +1,78 @@
-//! The program, over any files, reader and writers.
+//! The program, over any files, input and streams.
 ghost use Rattle.std.specs.IoError.{error_kind};
-ghost use Rattle.std.specs.Io.KnownBytes.{Appends};
-ghost use Rattle.std.specs.Prelude.{◌≡◌, OnOk, map};
+ghost use Rattle.std.specs.Prelude.{◌≡◌, map};
 ghost use Rattle.clap.specs.Words.{fault_of};
+ghost use Rattle.rv_listing.specs.Sinks.{IsCounted};
 ghost use Rattle.command_line.specs.Line.{app};
 ghost use Rattle.command_line.specs.Program.{Does, IsAsAsked, IsStatusFor, IsUntouched, Stops};
 ghost use Rattle.command_line.specs.Program.{explains, status_without_words, text_without_words};
 ghost use Rattle.commands.specs.Ending.{Ends};
 ghost use Rattle.commands.specs.Files.{files_of};
-ghost use Rattle.commands.specs.Talks.{exchange};
-ghost use Rattle.commands.specs.Written.{Gains};
+ghost use Rattle.commands.specs.Streams.{IsTold, exchange, source, stream};
 
 use crate::line::asked::Line;
 use crate::line::line;
-use commands::{Ending, Status, Stop, Store, check_image, make_image, mon_job, run_job, try_job};
+use commands::{
+    Sink, Source, Status, Stop, Store, Stream, check_image, make_image, mon_job, run_job, try_job,
+};
+use rv_listing::put;
 use std::alloc::Global;
 use std::io;
-use std::io::{ErrorKind, Read, Write};
+use std::io::ErrorKind;
 
 /// Does what the words ask for, of which the first is the program's name: reads and writes the files
 /// in `store`, prints what came of it to `output`, and why it was refused or failed to `errors`.
-/// `mon` alone reads from the input.
+/// `mon` alone reads from the input. It answers the status.
 ///
 /// Where `clap` refuses the words, the status is `Usage`, and for help or the version `Done` (or `File`, where standard
 /// output takes no text), unless memory runs out.
-pub fn perform<'a, S: Store, I: Read, O: Write, E: Write>(
+pub fn perform<'a, S: Store, I: Source, O: Stream, E: Sink>(
     alloc: Global,
     words: &'a [&'a str],
     store: &mut S,
     input: &mut I,
     output: &mut O,
     errors: &mut E,
-) -> Ending
-    ensures status { IsStatusFor (fault_of app (map (λ w. w.now) words.entry.now)) result.status }
+) -> Status
+    ensures status { IsStatusFor (fault_of app (map (λ w. w.now) words.entry.now))
+        (IsCounted (O.failures output.old) (O.failures output.new)) result }
     ensures untouched { IsUntouched (fault_of app (map (λ w. w.now) words.entry.now))
         (S.held store.old) (S.held store.new) }
     ensures asked { IsAsAsked (files_of (S.held store.old)) (map (λ w. w.now) words.entry.now)
-        (exchange (I.remaining input.old) (I.remaining input.new)
-        (O.contents output.old) (O.contents output.new))
+        (exchange
+        (source (I.remaining input.old) (I.reads input.old) (I.failures input.old))
+        (source (I.remaining input.new) (I.reads input.new) (I.failures input.new))
+        (stream (O.contents output.old) (O.failures output.old))
+        (stream (O.contents output.new) (O.failures output.new)))
         (S.held store.old) (S.held store.new)
-        (E.contents errors.old) (E.contents errors.new) result }
+        (stream (E.contents errors.old) (E.failures errors.old))
+        (stream (E.contents errors.new) (E.failures errors.new)) result }
 {
     match line(alloc, words) {
         Ok(asked) => carry_out(alloc, asked, store, input, output, errors),
-        Err(error) => error.tell(output, errors),
+        Err(error) => error.tell(alloc, output, errors),
     }
 }
 
 /// Does what a line asks for.
-fn carry_out<'a, S: Store, I: Read, O: Write, E: Write>(
+fn carry_out<'a, S: Store, I: Source, O: Stream, E: Sink>(
     alloc: Global,
     asked: Line<'a>,
     store: &mut S,
     input: &mut I,
     output: &mut O,
     errors: &mut E,
-) -> Ending
-    ensures { Ends (explains asked.entry)
-        (Does (files_of (S.held store.old)) asked.entry
-        (exchange (I.remaining input.old) (I.remaining input.new)
-        (O.contents output.old) (O.contents output.new))
-        (S.held store.old) (S.held store.new))
-        (Stops (files_of (S.held store.old))
-        (exchange (I.remaining input.old) (I.remaining input.new)
-        (O.contents output.old) (O.contents output.new))
-        (Gains (S.held store.old) (S.held store.new)) asked.entry)
-        (E.contents errors.old) (E.contents errors.new) result }
+) -> Status
+    ensures { let e = (exchange
+        (source (I.remaining input.old) (I.reads input.old) (I.failures input.old))
+        (source (I.remaining input.new) (I.reads input.new) (I.failures input.new))
+        (stream (O.contents output.old) (O.failures output.old))
+        (stream (O.contents output.new) (O.failures output.new))) in
+        Ends (explains asked.entry)
+        (Does (files_of (S.held store.old)) asked.entry e (S.held store.old) (S.held store.new))
+        (Stops (files_of (S.held store.old)) asked.entry e (S.held store.old) (S.held store.new))
+        (stream (E.contents errors.old) (E.failures errors.old))
+        (stream (E.contents errors.new) (E.failures errors.new)) result }
 {
     match asked {
         Line::Check { image, explain } => check_image(alloc, image, explain, store, output, errors),
@@ -84,17 +91,18 @@ fn carry_out<'a, S: Store, I: Read, O: Write, E: Write>(
     }
 }
 
-/// Ends the program where the system's words were not taken, and tells why: memory ran out, or they are not UTF-8.
-pub fn end_without_words<E: Write>(error: io::Error, errors: &mut E) -> Ending
-    ensures status { result.status ≡ status_without_words (error_kind error) }
-    ensures told { OnOk result.told (Appends (E.contents errors.old) (E.contents errors.new)
-        (text_without_words result.status)) }
+/// Ends the program where the system's words were not taken, and tells why: memory ran out, or they are not UTF-8. It answers
+/// the status.
+pub fn end_without_words<E: Sink>(error: io::Error, errors: &mut E) -> Status
+    ensures status { result ≡ status_without_words (error_kind error) }
+    ensures told { IsTold (stream (E.contents errors.old) (E.failures errors.old))
+        (stream (E.contents errors.new) (E.failures errors.new)) (text_without_words result) }
 {
     match error.kind() {
         ErrorKind::OutOfMemory => Stop::Memory.tell(errors),
-        _ => Ending {
-            status: Status::Usage,
-            told: errors.write_all("error: the words are not UTF-8\n".as_bytes()),
-        },
+        _ => {
+            let _told = put(errors, "error: the words are not UTF-8\n".as_bytes());
+            Status::Usage
+        }
     }
 }

@@ -1,10 +1,7 @@
 -- How a subcommand ends, from what was done and what was told.
-use Rattle.std.proofs.Common.{◌≡◌, ◌∙◌, ◌++◌, Bool, true, false, ℕ, List, [], Option, Some, None, option_map, Result, Ok, Err, IfOk, IfErr, OnOk, MatchResult, ap, sym, subst, inl, inr, refl}
-use Rattle.std.specs.Io.KnownBytes.{Appends}
-use Rattle.std.specs.Option.{ok_or}
+use Rattle.std.proofs.Common.{◌≡◌, ◌∙◌, ◌++◌, Bool, ℕ, List, [], Option, Some, option_map, Result, Ok, Err, IfOk, IfErr, IfSome, OnOk, MatchResult, ap, refl, sym, subst, inl, inr, None, unwrap_or}
 use Rattle.std.specs.Str.{IsUtf8}
 use Rattle.std.specs.Result.{IsErrAnd}
-use Rattle.std.proofs.lemmas.List.{append-nil}
 use Rattle.std.proofs.lemmas.Result.{MatchResult-weaker}
 use Rattle.block_checker.specs.Accepted.{AcceptedView}
 use Rattle.job_file.specs.Job.{IsTableFault, Text}
@@ -12,19 +9,20 @@ use Rattle.job_file.specs.declared.values.JobError.{JobError}
 use Rattle.job_file.specs.declared.values.JobError.TheVariants as job_error
 use Rattle.job_file.specs.Needs.{RunJob}
 use Rattle.job_file.specs.declared.values.RunParam.{RunParam}
+use Rattle.rv_listing.specs.Sinks.{Told}
 use Rattle.toml.specs.Data.{Members}
 use Rattle.toml.specs.Parse.{parse_document}
 use Rattle.commands.specs.Accepted.{IsOrWant}
-use Rattle.commands.specs.Ending.{Ends, status_after, status_of_end, stop_of_job, tells_more, text_after}
-use Rattle.commands.specs.Files.{ArePassed, Files, IsImageAt, IsNoImageAt, IsNoTable, IsNoTableAt, IsTableAt, IsUnfinished, IsUnpassed, IsUnwritten, files_of, image_in, outs_of}
-use Rattle.commands.specs.More.{Fits, IsMore, more_if, more_text}
+use Rattle.commands.specs.Ending.{Ends, IsMore, Tells, more_if, plain, status_after, status_of_end, stop_of_job}
+use Rattle.commands.specs.Files.{ArePassed, Files, IsImageAt, IsNoImageAt, IsNoTable, IsUnfinished, IsUnpassed, IsUnwritten, files_of, image_in, outs_of}
+use Rattle.commands.specs.Halt.{bare, stop_of}
 use Rattle.commands.specs.Starts.{IsStarted, IsUnstarted, StopsStarting}
 use Rattle.commands.specs.Steps.{IsUnasked}
+use Rattle.commands.specs.Streams.{Change, IsTold, Prints, Stream, Wrote, change, stream}
 use Rattle.commands.specs.Trial.{OrMemory, StopsAtTrial, line_of, shown_of, told_of}
-use Rattle.commands.specs.Words.{Argument, ImageView}
+use Rattle.commands.specs.Words.{Argument, Halt, ImageView}
 use Rattle.commands.specs.Written.{Gains, Held, Written}
-use Rattle.commands.specs.declared.more.More.{More}
-use Rattle.commands.specs.declared.stop.Ending.{Ending}
+use Rattle.commands.specs.declared.did.Did.{Did}
 use Rattle.commands.specs.declared.stop.Status.{Status}
 use Rattle.commands.specs.declared.stop.Stop.{Stop}
 use Rattle.commands.specs.declared.stop.Stop.TheVariants as stop
@@ -32,71 +30,43 @@ use Rattle.commands.specs.declared.trial.Trial.{Trial}
 
 -- ---- how a subcommand ends
 
--- an ending with what was done is one of a subcommand that does so, or stops so
-pub ends_as : {explains : Bool} {old new : Option (List ℕ)} {ending : Ending} {does : Status → Type 0} {stops : Stop → Type 0}
-    (done : Result Status Stop) → Ends explains (λ s. done ≡ Ok s) (λ reason. done ≡ Err reason) old new ending
-    → MatchResult done does stops → Ends explains does stops old new ending
-ends_as {explains} {old} {new} {ending} {does} {stops} done e comes = record {
-  done = done;
-  comes = comes;
-  status = e.status ∙ ap status_after (sym (same e.done e.comes));
-  more = e.more;
-  unasked = e.unasked;
-  silent = subst (λ (r : Result Status Stop). tells_more explains r ≡ false → e.more ≡ []) (sym (same e.done e.comes)) e.silent;
-  fits = subst (λ (r : Result Status Stop). IsMore r e.more) (sym (same e.done e.comes)) e.fits;
-  told = subst (λ (r : Result Status Stop). OnOk ending.told (Appends old new (text_after r ++ e.more))) (sym (same e.done e.comes)) e.told;
-}
-  where
-    same : (r : Result Status Stop) → MatchResult r (λ s. done ≡ Ok s) (λ reason. done ≡ Err reason) → done ≡ r
-    same (Ok s) is = is
-    same (Err reason) is = is
+-- an ending with what was done, and with what more is told of it, is one of a subcommand that does so, or stops so
+pub ends_as : {explains : Bool} {old new : Stream} {s : Status} {does : Status → Type 0} {stops : Stop → Type 0}
+    (came : Result Did Halt) → s ≡ status_after (plain came) → Tells explains came old new
+    → MatchResult (plain came) does stops → Ends explains does stops old new s
+ends_as came says tells comes = record { came = came; comes = comes; status = says; told = tells }
 
 -- the same, where what was done is known in other words
-pub ends_by : {explains : Bool} {old new : Option (List ℕ)} {ending : Ending} {does : Status → Type 0} {stops : Stop → Type 0}
-    (done : Result Status Stop) (did : Status → Type 0) (stopped : Stop → Type 0)
-    → Ends explains (λ s. done ≡ Ok s) (λ reason. done ≡ Err reason) old new ending → MatchResult done did stopped
-    → ((s : Status) → did s → does s) → ((reason : Stop) → stopped reason → stops reason) → Ends explains does stops old new ending
-ends_by done did stopped e comes so why = ends_as done e (MatchResult-weaker done comes so why)
+pub ends_by : {explains : Bool} {old new : Stream} {s : Status} {does : Status → Type 0} {stops : Stop → Type 0}
+    (came : Result Did Halt) (did : Status → Type 0) (stopped : Stop → Type 0) → s ≡ status_after (plain came)
+    → Tells explains came old new → MatchResult (plain came) did stopped
+    → ((done : Status) → did done → does done) → ((reason : Stop) → stopped reason → stops reason) → Ends explains does stops old new s
+ends_by came did stopped says tells comes so why = ends_as came says tells (MatchResult-weaker (plain came) comes so why)
 
--- more that is told fits, and what is not told is nothing
-pub told_fits : (tells : Bool) (m : More) (done : Result Status Stop) → (tells ≡ true → Fits m done) → IsMore done (more_if tells m)
-told_fits true m done fits = inr (m, fits refl, refl)
-told_fits false m done fits = inl refl
+-- what was written is told, or cut
+pub told_on : {E : Type 0} (r : Result (Unit {0}) E) (old new : Option (List ℕ)) (before now : ℕ) (text : List ℕ) → Told r old new before now text
+    → IsTold (stream old before) (stream new now) text
+told_on (Ok done) old new before now text is = inl is
+told_on (Err e) old new before now text is = inr is
 
-pub untold : (tells : Bool) (m : More) → tells ≡ false → more_if tells m ≡ []
-untold true m off = cc
-untold false m off = refl
-
--- more that is to be told is whole
-pub told_whole : {E : Type 0} (old new : Option (List ℕ)) (line : List ℕ) (tells : Bool) (m : More) (told : Result (Unit {0}) E) → tells ≡ true
-    → OnOk told (Appends old new (line ++ more_if tells m)) → OnOk told (Appends old new (line ++ more_text m))
-told_whole old new line true m told on is = is
-told_whole old new line false m told on is = cc
-
--- no more is told where it is not to explain
-pub no_more : (explains : Bool) (done : Result Status Stop) → explains ≡ false → tells_more explains done ≡ false
-no_more explains (Ok s) off = off
-no_more explains (Err (stop.Job error)) off = off
-no_more explains (Err (stop.File path)) off = off
-no_more explains (Err (stop.Image error)) off = off
-no_more explains (Err stop.NoCertificate) off = off
-no_more explains (Err (stop.Certificate error)) off = off
-no_more explains (Err (stop.Check error)) off = off
-no_more explains (Err (stop.Make error)) off = off
-no_more explains (Err (stop.Open error)) off = off
-no_more explains (Err stop.Memory) off = refl
-no_more explains (Err stop.Output) off = refl
-
-pub itself : {A : Type 0} (r : Result A Stop) → MatchResult r (λ a. r ≡ Ok a) (λ reason. r ≡ Err reason)
-itself (Ok a) = refl
-itself (Err reason) = refl
+-- what more is told, where there is a text of it
+pub more_is : {T : Type 0} (view : T → List ℕ) (explains : Bool) (came : Result Did Halt) (text : Option T) → IfSome text (λ t. view t ≡ more_if explains came)
+    → IsMore explains came (unwrap_or (option_map view text) [])
+more_is view explains came (Some text) is = inl is
+more_is view explains came None is = inr refl
 
 -- ---- a reason to stop that a `?` hands on
 
-pub handed_on : {A : Type 0} (does : A → Type 0) (stops : Stop → Type 0) (r : Result A Stop) (reason : Stop)
-    → IsErrAnd r (λ told. told ≡ reason) → stops reason → MatchResult r does stops
-handed_on does stops (Ok a) reason is why = absurd is
-handed_on does stops (Err told) reason is why = subst stops (sym is) why
+pub handed_on : {A : Type 0} (does : A → Type 0) (stops : Stop → Type 0) (r : Result A Halt) (why : Halt)
+    → IsErrAnd r (λ told. told ≡ why) → stops (stop_of why) → MatchResult (bare r) does stops
+handed_on does stops (Ok a) why is it = absurd is
+handed_on does stops (Err told) why is it = subst (λ (h : Halt). stops (stop_of h)) (sym is) it
+
+-- the same in a subcommand
+pub handed_over : (does : Status → Type 0) (stops : Stop → Type 0) (r : Result Did Halt) (why : Halt)
+    → IsErrAnd r (λ told. told ≡ why) → stops (stop_of why) → MatchResult (plain r) does stops
+handed_over does stops (Ok a) why is it = absurd is
+handed_over does stops (Err told) why is it = subst (λ (h : Halt). stops (stop_of h)) (sym is) it
 
 -- ---- what is defined, where the answer is no reason to stop
 
@@ -116,11 +86,11 @@ no_table bytes text job_error.NotToml same utf8 is = inr (subst (λ (t : List �
 no_table bytes text job_error.BadKey same utf8 is = absurd is
 no_table bytes text job_error.NoMemory same utf8 is = utf8
 
-pub table_read : {T : Type 0} (view : T → Members) (files : Files) (path : Text) (had text : List ℕ) (result : Result T Stop)
-    → text ≡ had → files.holds path had → MatchResult result (λ table. parse_document text ≡ Some (view table)) (IsNoTable text)
-    → MatchResult result (λ table. IsTableAt files path (view table)) (IsNoTableAt files path)
-table_read view files path had text (Ok table) same there is = (text, subst (files.holds path) (sym same) there, is)
-table_read view files path had text (Err reason) same there is = inr (text, subst (files.holds path) (sym same) there, is)
+pub table_parsed : {T : Type 0} (view : T → Members) (bytes text : List ℕ) (r : Result T JobError) → text ≡ bytes → IsUtf8 bytes
+    → IfOk r (λ table. parse_document text ≡ Some (view table)) → IfErr r (IsTableFault text)
+    → MatchResult r (λ table. parse_document bytes ≡ Some (view table)) (λ error. IsNoTable bytes (stop_of_job error))
+table_parsed view bytes text (Ok table) same utf8 is none = subst (λ (t : List ℕ). parse_document t ≡ Some (view table)) same is
+table_parsed view bytes text (Err error) same utf8 is none = no_table bytes text error same utf8 none
 
 pub image_read : (files : Files) (path : Text) (had file : List ℕ) (result : Result ImageView Stop)
     → file ≡ had → files.holds path had → OrMemory (image_in file) result → MatchResult result (IsImageAt files path) (IsNoImageAt files path)
@@ -128,26 +98,18 @@ image_read files path had file (Ok image) same there is =
     (file, subst (files.holds path) (sym same) there, or_ok (image_in file) image is)
 image_read files path had file (Err reason) same there is = inr (file, subst (files.holds path) (sym same) there, is)
 
--- ---- a table that asks for no job
+-- ---- what a table asks for: `o` is what the program has of it
 
-one_error : {J : Type 0} (r : Result J JobError) (a b : JobError) → r ≡ Err a → r ≡ Err b → a ≡ b
-one_error r a b first second = cc
+pub unasked : {J K : Type 0} (view : J → K) (o : Option J) (asked : Option K) (reason : Stop) → option_map view o ≡ asked
+    → IsUnasked o reason → IsUnasked asked reason
+unasked view o asked reason is (none, why) = (sym is ∙ ap (option_map view) none, why)
 
-no_value : {J : Type 0} (r : Result J JobError) (e : JobError) (j : J) → r ≡ Ok j → r ≡ Err e → ⊥
-no_value r e j first second = cc
+pub unasked_self : {J : Type 0} (o asked : Option J) (reason : Stop) → o ≡ asked → IsUnasked o reason → IsUnasked asked reason
+unasked_self o asked reason is (none, why) = (sym is ∙ none, why)
 
-map_self : {J : Type 0} (o : Option J) → option_map (λ j. j) o ≡ o
-map_self None = refl
-map_self (Some j) = refl
-
-pub unasked : {J K : Type 0} (view : J → K) (o : Option J) (asked : Option K) (r : Result J JobError) (e : JobError)
-    → option_map view o ≡ asked → r ≡ ok_or o job_error.BadKey → r ≡ Err e → IsUnasked asked (stop_of_job e)
-unasked view None asked r e is or_else err = (sym is, ap stop_of_job (one_error r e job_error.BadKey err or_else))
-unasked view (Some j) asked r e is or_else err = absurd (no_value r e j or_else err)
-
-pub unasked_self : {J : Type 0} (o asked : Option J) (r : Result J JobError) (e : JobError)
-    → o ≡ asked → r ≡ ok_or o job_error.BadKey → r ≡ Err e → IsUnasked asked (stop_of_job e)
-unasked_self o asked r e is or_else err = unasked (λ j. j) o asked r e (map_self o ∙ is) or_else err
+pub asked_for : {J K : Type 0} (view : J → K) (o : Option J) (asked : Option K) (job : J) → option_map view o ≡ asked
+    → o ≡ Some job → asked ≡ Some (view job)
+asked_for view o asked job is some = sym is ∙ ap (option_map view) some
 
 -- ---- what is known of a store, after what only read it
 
@@ -168,8 +130,8 @@ unwritten_after a b c params args reason same why = subst (λ (h : Option Held).
 -- ---- what `run` and `mon` begin with
 
 -- what is not started stops so, whatever would follow
-pub unstarted : (files : Files) (wrote : Written → Type 0) (later : (Written → Type 0) → RunJob Text → AcceptedView → List Argument → Stop → Type 0) (table : Members) (reason : Stop)
-    → IsUnstarted files table reason → wrote [] → StopsStarting files wrote (later wrote) table reason
+pub unstarted : (files : Files) (wrote : Written → Type 0) (later : RunJob Text → AcceptedView → List Argument → Stop → Type 0) (table : Members) (reason : Stop)
+    → IsUnstarted files table reason → wrote [] → StopsStarting files wrote later table reason
 unstarted files wrote later table reason (inl (why, _)) none = inl (why, none)
 unstarted files wrote later table reason (inr (job, asked, inl (why, _))) none = inr (job, asked, inl (why, none))
 unstarted files wrote later table reason (inr (job, asked, inr (image, there, inl (why, _)))) none =
@@ -179,39 +141,48 @@ unstarted files wrote later table reason (inr (job, asked, inr (image, there, in
 unstarted files wrote later table reason (inr (job, asked, inr (image, there, inr (accepted, passes, inr (args, passed, never))))) none = absurd never
 
 -- what is started stops for what follows
-pub stops_started : (files : Files) (wrote : Written → Type 0) (later : (Written → Type 0) → RunJob Text → AcceptedView → List Argument → Stop → Type 0) (table : Members)
+pub stops_started : (files : Files) (wrote : Written → Type 0) (later : RunJob Text → AcceptedView → List Argument → Stop → Type 0) (table : Members)
     (job : RunJob Text) (accepted : AcceptedView) (args : List Argument) (reason : Stop)
-    → IsStarted files table job accepted args → later wrote job accepted args reason → StopsStarting files wrote (later wrote) table reason
+    → IsStarted files table job accepted args → later job accepted args reason → StopsStarting files wrote later table reason
 stops_started files wrote later table job accepted args reason s is =
     inr (job, s.asked, inr (s.image, s.there, inr (accepted, s.passes, inr (args, s.passed, is))))
 
 -- ---- how `run` and `try` end
-
--- the line with what is shown behind it
-told_as : (asked : Bool) (trial : Trial) (shown : List ℕ) → shown ≡ shown_of asked trial → line_of trial ++ shown ≡ told_of asked trial
-told_as false trial shown is = ap (λ (xs : List ℕ). line_of trial ++ xs) is ∙ append-nil (line_of trial)
-told_as true trial shown is = ap (λ (xs : List ℕ). line_of trial ++ xs) is
 
 -- memory runs out after a run came to a trial
 pub unshown : (defined : Result Trial Stop) (trial : Trial) (reason : Stop) → OrMemory defined (Ok trial) → reason ≡ stop.Memory → OrMemory defined (Err reason)
 unshown (Err told) trial reason comes is = cc
 unshown (Ok known) trial reason comes is = is
 
+-- what was not written before anything was printed
+pub unprinted : (files : Files) (c : Change) (params : List (RunParam Text)) (args : List Argument) (reason : Stop) → c.new ≡ c.old
+    → IsUnwritten files (Gains c.was c.has) params args reason → IsUnwritten files (Wrote c) params args reason
+unprinted files c params args reason same why = record {
+  place = why.place;
+  path = why.path;
+  bytes = why.bytes;
+  out = why.out;
+  before = (why.before, same);
+  why = why.why;
+}
+
 -- a run that came to a trial is written and told, or why not: `given` is what the job passes, as the program has it
-pub finished : (old new : Option (List ℕ)) (first then has : Option Held) (given params : List (RunParam Text))
+pub finished : (old new : Stream) (first then has : Option Held) (given params : List (RunParam Text))
     (defined : Result Trial Stop) (trial : Trial) (asked : Bool) (shown : List ℕ) (result : Result Status Stop) (does : Status → Type 0) (stops : Stop → Type 0)
     → given ≡ params → OrMemory defined (Ok trial) → then ≡ first → shown ≡ shown_of asked trial
-    → IfOk result (λ s. s ≡ status_of_end trial.end) → OnOk result (Appends old new (line_of trial ++ shown))
-    → OnOk result (Gains then has (outs_of given trial.args.places)) → IfErr result (IsUnfinished (files_of then) (Gains then has) given trial.args.places)
-    → ((s : Status) → defined ≡ Ok trial → Gains first has (outs_of params trial.args.places) → Appends old new (told_of asked trial)
+    → IfOk result (λ s. s ≡ status_of_end trial.end) → OnOk result (Prints old new (line_of trial ++ shown))
+    → OnOk result (Gains then has (outs_of given trial.args.places))
+    → IfErr result (IsUnfinished (files_of then) (change then has old new) given trial.args.places (line_of trial ++ shown))
+    → ((s : Status) → defined ≡ Ok trial → Gains first has (outs_of params trial.args.places) → Prints old new (told_of asked trial)
     → s ≡ status_of_end trial.end → does s)
-    → ((reason : Stop) → StopsAtTrial (files_of first) (Gains first has) params defined reason → stops reason)
+    → ((reason : Stop) → StopsAtTrial (files_of first) (change first has old new) asked params defined reason → stops reason)
     → MatchResult result does stops
 finished old new first then has given params defined trial asked shown (Ok s) does stops same comes none is done told wrote un do_so stop_so =
     let outs = subst (λ (ps : List (RunParam Text)). Gains first has (outs_of ps trial.args.places)) same
     (subst (λ (h : Option Held). Gains h has (outs_of given trial.args.places)) none wrote) in
-    do_so s (or_ok defined trial comes) outs (subst (λ (text : List ℕ). Appends old new text) (told_as asked trial shown is) told) done
+    do_so s (or_ok defined trial comes) outs (subst (λ (text : List ℕ). Prints old new (line_of trial ++ text)) is told) done
 finished old new first then has given params defined trial asked shown (Err reason) does stops same comes none is done told wrote un do_so stop_so =
-    let all = subst (λ (h : Option Held). IsUnfinished (files_of h) (Gains h has) given trial.args.places reason) none un in
-    let why = subst (λ (ps : List (RunParam Text)). IsUnfinished (files_of first) (Gains first has) ps trial.args.places reason) same all in
+    let all = subst (λ (h : Option Held). IsUnfinished (files_of h) (change h has old new) given trial.args.places (line_of trial ++ shown) reason) none un in
+    let some = subst (λ (ps : List (RunParam Text)). IsUnfinished (files_of first) (change first has old new) ps trial.args.places (line_of trial ++ shown) reason) same all in
+    let why = subst (λ (text : List ℕ). IsUnfinished (files_of first) (change first has old new) params trial.args.places (line_of trial ++ text) reason) is some in
     stop_so reason (inr (trial, or_ok defined trial comes, why))

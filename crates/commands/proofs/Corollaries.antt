@@ -1,5 +1,5 @@
 -- How subcommands end over files that are known.
-use Rattle.std.proofs.Common.{◌≡◌, ◌⊎◌, ◌∙◌, ◌++◌, inl, inr, map, Bool, ℕ, List, [], Option, Some, Result, Ok, Err, MatchResult, get_or, refl, sym, ap}
+use Rattle.std.proofs.Common.{◌≡◌, ◌⊎◌, ◌∙◌, ◌++◌, inl, inr, map, Bool, ℕ, List, [], Some, Result, Ok, Err, MatchResult, get_or, refl, sym, ap}
 use Rattle.std.proofs.lemmas.List.{append-nil}
 use Rattle.job_file.specs.Job.{Text}
 use Rattle.job_file.specs.declared.values.RunParam.{RunParam}
@@ -7,14 +7,15 @@ use Rattle.job_file.specs.declared.values.RunParam.TheVariants as given
 use Rattle.region_mem.specs.declared.arguments.Arg.TheVariants as argument
 use Rattle.commands.specs.Words.{Argument, Members}
 use Rattle.commands.specs.Checks.{Checks, StopsCheck}
-use Rattle.commands.specs.Corollary.{AreGiven, IsBoundOf, IsGiven, IsMadeOf, IsRunOf, IsTrialOf}
-use Rattle.commands.specs.Ending.{Ends, status_after, status_of}
+use Rattle.commands.specs.Corollary.{AreGiven, IsBoundOf, IsGiven, IsMadeOf, IsRunOf, IsTrialOf, IsWatchOf}
+use Rattle.commands.specs.Ending.{Ends, plain, status_after, status_of}
 use Rattle.commands.specs.Files.{ArePassed, IsPassed, OfTable, StopsOfTable, bytes_at, files_of}
 use Rattle.commands.specs.Makes.{Makes, StopsMake}
+use Rattle.commands.specs.Mons.{Mons}
 use Rattle.commands.specs.Runs.{Runs, StopsRun}
 use Rattle.commands.specs.Tries.{StopsTry, Tries, passed_by}
-use Rattle.commands.specs.Written.{Gains, Held, Written}
-use Rattle.commands.specs.declared.stop.Ending.{Ending}
+use Rattle.commands.specs.Streams.{Change, Exchange, Stream, Wrote, change, stream}
+use Rattle.commands.specs.Written.{Gains, Held}
 use Rattle.commands.specs.declared.stop.Status.{Status}
 use Rattle.commands.specs.declared.stop.Status.TheVariants as status
 use Rattle.commands.specs.declared.stop.Stop.{Stop}
@@ -53,28 +54,34 @@ some a b is = cc
 kept : (was has : Held) → Gains (Some was) (Some has) [] → has ≡ was
 kept was has is = some has was (is ∙ ap (λ (files : List (List ℕ × List ℕ)). Some (record { files = files; unread = was.unread; unwritten = was.unwritten })) (append-nil was.files))
 
-pub check_done : {explains : Bool} (was has : Held) (path : Text) (old new : List ℕ) (told tells : Option (List ℕ)) (ending : Ending)
-    → Ends explains (Checks (files_of (Some was)) path (Some old) (Some new) (Some was) (Some has))
-    (StopsCheck (files_of (Some was)) (Gains (Some was) (Some has)) path) told tells ending
-    → ending.status ≡ status.Done
+-- what is left, of files and of standard output that are known
+abbrev known : Held → Held → List ℕ → List ℕ → ℕ → ℕ → Change
+known was has old new before now = change (Some was) (Some has) (stream (Some old) before) (stream (Some new) now)
+
+pub check_done : {explains : Bool} (was has : Held) (path : Text) (old new : List ℕ) (before now : ℕ) (told tells : Stream) (s : Status)
+    → Ends explains (Checks (files_of (Some was)) path (known was has old new before now))
+    (StopsCheck (files_of (Some was)) (known was has old new before now) path) told tells s
+    → s ≡ status.Done
     → (file : List ℕ) × (bytes_at was path ≡ Some file) × (line : List ℕ) × IsBoundOf file line × (new ≡ old ++ line)
-check_done was has path old new told tells ending e is = go e.done e.comes (sym e.status ∙ is)
+check_done was has path old new before now told tells s e is = go (plain e.came) e.comes (sym e.status ∙ is)
   where
-    go : (done : Result Status Stop) → MatchResult done (Checks (files_of (Some was)) path (Some old) (Some new) (Some was) (Some has))
-        (StopsCheck (files_of (Some was)) (Gains (Some was) (Some has)) path) → status_after done ≡ status.Done
+    go : (done : Result Status Stop) → MatchResult done (Checks (files_of (Some was)) path (known was has old new before now))
+        (StopsCheck (files_of (Some was)) (known was has old new before now) path) → status_after done ≡ status.Done
         → (file : List ℕ) × (bytes_at was path ≡ Some file) × (line : List ℕ) × IsBoundOf file line × (new ≡ old ++ line)
-    go (Ok s) c is = (c.there.0, c.there.1, _, record { image = c.image; spells = c.there.2; accepted = c.accepted; passes = c.passes; budget = c.budget; entry = c.entry; told = refl }, c.told)
+    go (Ok ended) c is = (c.there.0, c.there.1, _, record { image = c.image; spells = c.there.2; accepted = c.accepted; passes = c.passes; budget = c.budget; entry = c.entry; told = refl }, c.told.0)
     go (Err reason) c is = absurd (undone reason is)
 
-pub check_kept : {explains : Bool} (was has : Held) (path : Text) (old new : List ℕ) (told tells : Option (List ℕ)) (ending : Ending)
-    → Ends explains (Checks (files_of (Some was)) path (Some old) (Some new) (Some was) (Some has))
-    (StopsCheck (files_of (Some was)) (Gains (Some was) (Some has)) path) told tells ending → has ≡ was
-check_kept was has path old new told tells ending e = go e.done e.comes
+pub check_kept : {explains : Bool} (was has : Held) (path : Text) (old new : List ℕ) (before now : ℕ) (told tells : Stream) (s : Status)
+    → Ends explains (Checks (files_of (Some was)) path (known was has old new before now))
+    (StopsCheck (files_of (Some was)) (known was has old new before now) path) told tells s → has ≡ was
+check_kept was has path old new before now told tells s e = go (plain e.came) e.comes
   where
-    go : (done : Result Status Stop) → MatchResult done (Checks (files_of (Some was)) path (Some old) (Some new) (Some was) (Some has))
-        (StopsCheck (files_of (Some was)) (Gains (Some was) (Some has)) path) → has ≡ was
-    go (Ok s) c = kept was has c.wrote
-    go (Err reason) c = kept was has c.1
+    go : (done : Result Status Stop) → MatchResult done (Checks (files_of (Some was)) path (known was has old new before now))
+        (StopsCheck (files_of (Some was)) (known was has old new before now) path) → has ≡ was
+    go (Ok ended) c = kept was has c.wrote
+    go (Err reason) (inl (why, wrote)) = kept was has wrote.0
+    go (Err reason) (inr (image, there, inl (why, wrote))) = kept was has wrote.0
+    go (Err reason) (inr (image, there, inr (accepted, passes, (budget, entry, same, cut)))) = kept was has cut.0
 
 given_at : (was : Held) (param : RunParam Text) (arg : Argument) → IsPassed (files_of (Some was)) param arg → IsGiven was param arg
 given_at was given.None arg is = is
@@ -84,20 +91,20 @@ given_at was (given.Buffer file out) arg is = is
 are_given : (was : Held) (params : List (RunParam Text)) (args : List Argument) → ArePassed (files_of (Some was)) params args → AreGiven was params args
 are_given was params args (eight, passed) = λ k below. given_at was (get_or params k given.None) (get_or args k argument.None) (passed k below)
 
-abbrev DoesRun : Bool → Held → Held → Text → List ℕ → List ℕ → Status → Type 0
-DoesRun registers was has path old new = OfTable (files_of (Some was)) path (λ table. Runs (files_of (Some was)) registers table (Some old) (Some new) (Some was) (Some has))
+abbrev DoesRun : Bool → Held → Text → Change → Status → Type 0
+DoesRun registers was path c = OfTable (files_of (Some was)) path (λ table. Runs (files_of (Some was)) registers table c)
 
-abbrev StopsSo : Held → Held → Text → ((Written → Type 0) → Members → Stop → Type 0) → Stop → Type 0
-StopsSo was has path stops = StopsOfTable (files_of (Some was)) (Gains (Some was) (Some has)) path (stops (Gains (Some was) (Some has)))
+abbrev StopsSo : Held → Text → Change → (Change → Members → Stop → Type 0) → Stop → Type 0
+StopsSo was path c stops = StopsOfTable (files_of (Some was)) (Wrote c) path (stops c)
 
-pub run_done : {explains : Bool} (registers : Bool) (was has : Held) (path : Text) (old new : List ℕ) (told tells : Option (List ℕ)) (ending : Ending)
-    → Ends explains (DoesRun registers was has path old new) (StopsSo was has path (StopsRun (files_of (Some was)))) told tells ending
-    → ending.status ≡ status.Done → IsRunOf registers was has path old new
-run_done registers was has path old new told tells ending e is = go e.done e.comes (sym e.status ∙ is)
+pub run_done : {explains : Bool} (registers : Bool) (was has : Held) (path : Text) (old new : List ℕ) (before now : ℕ) (told tells : Stream) (s : Status)
+    → Ends explains (DoesRun registers was path (known was has old new before now)) (StopsSo was path (known was has old new before now) (StopsRun (files_of (Some was)) registers)) told tells s
+    → s ≡ status.Done → IsRunOf registers was has path old new
+run_done registers was has path old new before now told tells s e is = go (plain e.came) e.comes (sym e.status ∙ is)
   where
-    go : (done : Result Status Stop) → MatchResult done (DoesRun registers was has path old new) (StopsSo was has path (StopsRun (files_of (Some was))))
+    go : (done : Result Status Stop) → MatchResult done (DoesRun registers was path (known was has old new before now)) (StopsSo was path (known was has old new before now) (StopsRun (files_of (Some was)) registers))
         → status_after done ≡ status.Done → IsRunOf registers was has path old new
-    go (Ok s) (table, spells, r) is = record {
+    go (Ok ended) (table, spells, r) is = record {
       table = table;
       spells = spells;
       job = r.job;
@@ -110,22 +117,22 @@ run_done registers was has path old new told tells ending e is = go e.done e.com
       passed = are_given was r.job.params r.args r.started.passed;
       trial = r.trial;
       comes = r.comes;
-      printed = r.told;
+      printed = r.told.0;
       files = some _ _ r.wrote;
     }
     go (Err reason) c is = absurd (undone reason is)
 
-abbrev DoesTry : Bool → Held → Held → Text → List ℕ → List ℕ → Status → Type 0
-DoesTry registers was has path old new = OfTable (files_of (Some was)) path (λ table. Tries (files_of (Some was)) registers table (Some old) (Some new) (Some was) (Some has))
+abbrev DoesTry : Bool → Held → Text → Change → Status → Type 0
+DoesTry registers was path c = OfTable (files_of (Some was)) path (λ table. Tries (files_of (Some was)) registers table c)
 
-pub try_done : {explains : Bool} (registers : Bool) (was has : Held) (path : Text) (old new : List ℕ) (told tells : Option (List ℕ)) (ending : Ending)
-    → Ends explains (DoesTry registers was has path old new) (StopsSo was has path (StopsTry (files_of (Some was)))) told tells ending
-    → (ending.status ≡ status.Done) ⊎ (ending.status ≡ status.Stopped) → IsTrialOf registers was has path old new ending.status
-try_done registers was has path old new told tells ending e is = go e.done e.comes e.status is
+pub try_done : {explains : Bool} (registers : Bool) (was has : Held) (path : Text) (old new : List ℕ) (before now : ℕ) (told tells : Stream) (s : Status)
+    → Ends explains (DoesTry registers was path (known was has old new before now)) (StopsSo was path (known was has old new before now) (StopsTry (files_of (Some was)) registers)) told tells s
+    → (s ≡ status.Done) ⊎ (s ≡ status.Stopped) → IsTrialOf registers was has path old new s
+try_done registers was has path old new before now told tells s e is = go (plain e.came) e.comes e.status is
   where
-    go : (done : Result Status Stop) → MatchResult done (DoesTry registers was has path old new) (StopsSo was has path (StopsTry (files_of (Some was))))
-        → ending.status ≡ status_after done → (ending.status ≡ status.Done) ⊎ (ending.status ≡ status.Stopped) → IsTrialOf registers was has path old new ending.status
-    go (Ok s) (table, spells, r) same is = record {
+    go : (done : Result Status Stop) → MatchResult done (DoesTry registers was path (known was has old new before now)) (StopsSo was path (known was has old new before now) (StopsTry (files_of (Some was)) registers))
+        → s ≡ status_after done → (s ≡ status.Done) ⊎ (s ≡ status.Stopped) → IsTrialOf registers was has path old new s
+    go (Ok ended) (table, spells, r) same is = record {
       table = table;
       spells = spells;
       job = r.job;
@@ -136,26 +143,26 @@ try_done registers was has path old new told tells ending e is = go e.done e.com
       passed = are_given was (map passed_by r.job.params) r.args r.passed;
       trial = r.trial;
       comes = r.comes;
-      printed = r.told;
+      printed = r.told.0;
       files = some _ _ r.wrote;
       status = same ∙ r.done;
     }
     go (Err reason) c same (inl is) = absurd (undone reason (sym same ∙ is))
     go (Err reason) c same (inr is) = absurd (unstopped reason (sym same ∙ is))
 
-abbrev DoesMake : Held → Held → Text → Text → Text → List ℕ → List ℕ → Status → Type 0
-DoesMake was has path job_path out old new =
-    OfTable (files_of (Some was)) job_path (λ table. Makes (files_of (Some was)) path out table (Some old) (Some new) (Some was) (Some has))
+abbrev DoesMake : Held → Text → Text → Text → Change → Status → Type 0
+DoesMake was path job_path out c =
+    OfTable (files_of (Some was)) job_path (λ table. Makes (files_of (Some was)) path out table c)
 
-pub make_done : {explains : Bool} (was has : Held) (path job_path out : Text) (old new : List ℕ) (told tells : Option (List ℕ)) (ending : Ending)
-    → Ends explains (DoesMake was has path job_path out old new) (StopsSo was has job_path (λ wrote. StopsMake (files_of (Some was)) wrote path out)) told tells ending
-    → ending.status ≡ status.Done → IsMadeOf was has path job_path out old new
-make_done was has path job_path out old new told tells ending e is = go e.done e.comes (sym e.status ∙ is)
+pub make_done : {explains : Bool} (was has : Held) (path job_path out : Text) (old new : List ℕ) (before now : ℕ) (told tells : Stream) (s : Status)
+    → Ends explains (DoesMake was path job_path out (known was has old new before now)) (StopsSo was job_path (known was has old new before now) (λ c. StopsMake (files_of (Some was)) c path out)) told tells s
+    → s ≡ status.Done → IsMadeOf was has path job_path out old new
+make_done was has path job_path out old new before now told tells s e is = go (plain e.came) e.comes (sym e.status ∙ is)
   where
     go : (done : Result Status Stop)
-        → MatchResult done (DoesMake was has path job_path out old new) (StopsSo was has job_path (λ wrote. StopsMake (files_of (Some was)) wrote path out))
+        → MatchResult done (DoesMake was path job_path out (known was has old new before now)) (StopsSo was job_path (known was has old new before now) (λ c. StopsMake (files_of (Some was)) c path out))
         → status_after done ≡ status.Done → IsMadeOf was has path job_path out old new
-    go (Ok s) (table, spells, r) is = record {
+    go (Ok ended) (table, spells, r) is = record {
       table = table;
       spells = spells;
       job = r.job;
@@ -168,7 +175,31 @@ make_done was has path job_path out old new told tells ending e is = go e.done e
       passes = r.passes;
       budget = r.budget;
       entry = r.entry;
-      printed = r.told;
+      printed = r.told.0;
+      files = some _ _ r.wrote;
+    }
+    go (Err reason) c is = absurd (undone reason is)
+
+pub mon_done : {explains : Bool} {stops : Stop → Type 0} (was has : Held) (path : Text) (e : Exchange) (told tells : Stream) (s : Status)
+    → Ends explains (OfTable (files_of (Some was)) path (λ table. Mons (files_of (Some was)) table e (Some was) (Some has))) stops told tells s
+    → s ≡ status.Done → IsWatchOf was has path e
+mon_done {explains} {stops} was has path e told tells s ends is = go (plain ends.came) ends.comes (sym ends.status ∙ is)
+  where
+    go : (done : Result Status Stop) → MatchResult done (OfTable (files_of (Some was)) path (λ table. Mons (files_of (Some was)) table e (Some was) (Some has))) stops
+        → status_after done ≡ status.Done → IsWatchOf was has path e
+    go (Ok ended) (table, spells, r) is = record {
+      table = table;
+      spells = spells;
+      job = r.job;
+      asked = r.started.asked;
+      image = r.started.image;
+      there = r.started.there;
+      accepted = r.accepted;
+      passes = r.started.passes;
+      args = r.args;
+      passed = are_given was r.job.params r.args r.started.passed;
+      kept = r.kept;
+      stopped = r.stopped;
       files = some _ _ r.wrote;
     }
     go (Err reason) c is = absurd (undone reason is)

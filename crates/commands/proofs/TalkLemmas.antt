@@ -1,13 +1,14 @@
 -- Lines, one after another.
-use Rattle.std.proofs.Common.{◌≡◌, ◌∙◌, ◌++◌, ◌+◌, ◌<◌, ◌≤◌, inl, inr, ℕ, List, [], ◌∷◌, length, take, drop, get_or, Option, Some, None, Result, Ok, Err, refl, sym, ap, subst, append_assoc, add-one}
+use Rattle.std.proofs.Common.{◌≡◌, ◌∙◌, ◌++◌, ◌+◌, ◌<◌, inl, inr, ℕ, List, [], ◌∷◌, length, take, drop, get_or, Option, Some, None, Result, Ok, Err, refl, sym, ap, subst, append_assoc, add-one}
 use Rattle.std.proofs.Math.Seq.{take-suc}
-use Rattle.std.proofs.lemmas.List.{append-nil, take-append-drop, take_all}
+use Rattle.std.proofs.lemmas.List.{append-nil, take-append-drop}
 use Rattle.std.specs.Io.KnownBytes.{Appends, Consumes, IsAtEnd, Keeps, ReadConsumes}
 use Rattle.std.specs.Str.{IsUtf8}
 use Rattle.monitor.specs.Commands.{order_of}
 use Rattle.monitor.specs.declared.commands.Flow.{Flow}
 use Rattle.monitor.specs.declared.commands.Flow.TheVariants as flow
 use Rattle.monitor.specs.declared.commands.MonError.TheVariants as error
+use Rattle.commands.specs.Streams.{Prints, Stream}
 use Rattle.commands.specs.Talks.{AreAnswered, AreLines, GoesOver, IsAnswered, IsDone, IsLine, Quits, Stands, Talks, Watch, answer_of, error_line, flow_after, joined}
 
 joined-more : (xs ys : List (List ℕ)) → joined (xs ++ ys) ≡ joined xs ++ joined ys
@@ -63,13 +64,6 @@ unfolding IsLine
 line-more [] byte is other = (other, tt)
 line-more (b ∷ bytes) byte (one, is) other = (one, line-more bytes byte is other)
 
--- one more byte of a line
-pub stands-byte : (vlenb : ℕ) (read left : List ℕ) (byte : ℕ) (old new : Watch) (text : List ℕ) → Stands vlenb read left old new text → (byte ≡ 10 → ⊥)
-    → Stands vlenb (read ++ (byte ∷ [])) (left ++ (byte ∷ [])) old new text
-stands-byte vlenb read left byte old new text s other =
-    subst (λ (t : List ℕ). Stands vlenb (read ++ (byte ∷ [])) (left ++ (byte ∷ [])) old new t) (append-nil text)
-    (stands-more vlenb read left (byte ∷ []) (left ++ (byte ∷ [])) old new new text [] s (stands-none vlenb (left ++ (byte ∷ [])) new (line-more left byte s.begun other)))
-
 -- the end of a line, which is answered
 pub stands-line : (vlenb : ℕ) (read left : List ℕ) (byte : ℕ) (old mid new : Watch) (some answer : List ℕ) → Stands vlenb read left old mid some → byte ≡ 10
     → IsAnswered vlenb left mid new answer flow.Go → Stands vlenb (read ++ (byte ∷ [])) [] old new (some ++ answer)
@@ -108,15 +102,21 @@ quits-more vlenb read left bytes old mid new some more s q = record {
 
 -- ---- what is read and printed
 
-pub appends-none : (o : Option (List ℕ)) → Appends o o []
+appends-none : (o : Option (List ℕ)) → Appends o o []
 appends-none None = tt
 appends-none (Some xs) = sym (append-nil xs)
 
-pub appends-more : (a b c : Option (List ℕ)) (xs ys : List ℕ) → Appends a b xs → Appends b c ys → Appends a c (xs ++ ys)
+appends-more : (a b c : Option (List ℕ)) (xs ys : List ℕ) → Appends a b xs → Appends b c ys → Appends a c (xs ++ ys)
 appends-more None b c xs ys first second = tt
 appends-more (Some had) None c xs ys first second = absurd first
 appends-more (Some had) (Some more) None xs ys first second = absurd second
 appends-more (Some had) (Some more) (Some has) xs ys first second = second ∙ ap (λ (l : List ℕ). l ++ ys) first ∙ append_assoc had xs ys
+
+pub prints-none : (s : Stream) → Prints s s []
+prints-none s = (appends-none s.holds, refl)
+
+pub prints-more : (a b c : Stream) (xs ys : List ℕ) → Prints a b xs → Prints b c ys → Prints a c (xs ++ ys)
+prints-more a b c xs ys first second = (appends-more a.holds b.holds c.holds xs ys first.0 second.0, second.1 ∙ first.1)
 
 pub consumes-more : (a b c : Option (List ℕ)) (xs ys : List ℕ) → Consumes a b xs → Consumes b c ys → Consumes a c (xs ++ ys)
 consumes-more None b c xs ys first second = tt
@@ -148,34 +148,34 @@ is_unknown vlenb line w answer none told = record { order = Err error.Unknown; a
 
 -- ---- bytes, which may end lines
 
-pub goes-none : (vlenb : ℕ) (line : List ℕ) (o : Option (List ℕ)) (w : Watch) → IsLine line → GoesOver vlenb (line ++ []) line o o w w flow.Go
+pub goes-none : (vlenb : ℕ) (line : List ℕ) (o : Stream) (w : Watch) → IsLine line → GoesOver vlenb (line ++ []) line o o w w flow.Go
 goes-none vlenb line o w is =
-    ([], appends-none o, subst (λ (l : List ℕ). Stands vlenb l line w w []) (sym (append-nil line)) (stands-none vlenb line w is))
+    ([], prints-none o, subst (λ (l : List ℕ). Stands vlenb l line w w []) (sym (append-nil line)) (stands-none vlenb line w is))
 
-pub goes-byte : (vlenb : ℕ) (line last : List ℕ) (byte : ℕ) (o : Option (List ℕ)) (w : Watch) → last ≡ line ++ (byte ∷ []) → (byte ≡ 10 → ⊥) → IsLine line
+pub goes-byte : (vlenb : ℕ) (line last : List ℕ) (byte : ℕ) (o : Stream) (w : Watch) → last ≡ line ++ (byte ∷ []) → (byte ≡ 10 → ⊥) → IsLine line
     → GoesOver vlenb (line ++ (byte ∷ [])) last o o w w flow.Go
 goes-byte vlenb line last byte o w same other is =
-    ([], appends-none o, subst (λ (l : List ℕ). Stands vlenb (line ++ (byte ∷ [])) l w w []) (sym same) (stands-none vlenb (line ++ (byte ∷ [])) w (line-more line byte is other)))
+    ([], prints-none o, subst (λ (l : List ℕ). Stands vlenb (line ++ (byte ∷ [])) l w w []) (sym same) (stands-none vlenb (line ++ (byte ∷ [])) w (line-more line byte is other)))
 
-pub goes-line : (vlenb : ℕ) (line : List ℕ) (byte : ℕ) (had has : Option (List ℕ)) (old new : Watch) (f : Flow) → byte ≡ 10
-    → (text : List ℕ) × Appends had has text × IsAnswered vlenb line old new text f → IsLine line
+pub goes-line : (vlenb : ℕ) (line : List ℕ) (byte : ℕ) (had has : Stream) (old new : Watch) (f : Flow) → byte ≡ 10
+    → (text : List ℕ) × Prints had has text × IsAnswered vlenb line old new text f → IsLine line
     → GoesOver vlenb (line ++ (byte ∷ [])) [] had has old new f
 goes-line vlenb line byte had has old new flow.Go feed (text, told, a) is =
     (text, told, stands-line vlenb line line byte old old new [] text (stands-none vlenb line old is) feed a)
 goes-line vlenb line byte had has old new flow.Quit feed (text, told, a) is =
     (text, told, quits-line vlenb line line byte [] (line ++ (byte ∷ [])) old old new [] text (stands-none vlenb line old is) feed a refl)
 
-pub goes-more : (vlenb : ℕ) (read left more last : List ℕ) (had mid has : Option (List ℕ)) (old w new : Watch) (f : Flow)
+pub goes-more : (vlenb : ℕ) (read left more last : List ℕ) (had mid has : Stream) (old w new : Watch) (f : Flow)
     → GoesOver vlenb read left had mid old w flow.Go → (IsLine left → GoesOver vlenb (left ++ more) last mid has w new f)
     → GoesOver vlenb (read ++ more) last had has old new f
 goes-more vlenb read left more last had mid has old w new flow.Go (text, told, s) next =
     let n = next s.begun in
-    (text ++ n.0, appends-more had mid has text n.0 told n.1, stands-more vlenb read left more last old w new text n.0 s n.2)
+    (text ++ n.0, prints-more had mid has text n.0 told n.1, stands-more vlenb read left more last old w new text n.0 s n.2)
 goes-more vlenb read left more last had mid has old w new flow.Quit (text, told, s) next =
     let n = next s.begun in
-    (text ++ n.0, appends-more had mid has text n.0 told n.1, quits-more vlenb read left more old w new text n.0 s n.2)
+    (text ++ n.0, prints-more had mid has text n.0 told n.1, quits-more vlenb read left more old w new text n.0 s n.2)
 
-pub goes-step : (vlenb : ℕ) (begun bytes : List ℕ) (k d : ℕ) (left last : List ℕ) (had mid has : Option (List ℕ)) (old w new : Watch) (f g : Flow) → g ≡ f → k < length bytes
+pub goes-step : (vlenb : ℕ) (begun bytes : List ℕ) (k d : ℕ) (left last : List ℕ) (had mid has : Stream) (old w new : Watch) (f g : Flow) → g ≡ f → k < length bytes
     → GoesOver vlenb (begun ++ take k bytes) left had mid old w flow.Go → (IsLine left → GoesOver vlenb (left ++ (get_or bytes k d ∷ [])) last mid has w new g)
     → GoesOver vlenb (begun ++ take (k + 1) bytes) last had has old new f
 goes-step vlenb begun bytes k d left last had mid has old w new f g same below some next =
@@ -185,12 +185,12 @@ goes-step vlenb begun bytes k d left last had mid has old w new f g same below s
     (goes-more vlenb (begun ++ take k bytes) left (get_or bytes k d ∷ []) last had mid has old w new f some
     (λ line. subst (λ (h : Flow). GoesOver vlenb (left ++ (get_or bytes k d ∷ [])) last mid has w new h) same (next line)))
 
-pub goes-begin : (vlenb : ℕ) (o : Option (List ℕ)) (w : Watch) → GoesOver vlenb [] [] o o w w flow.Go
+pub goes-begin : (vlenb : ℕ) (o : Stream) (w : Watch) → GoesOver vlenb [] [] o o w w flow.Go
 unfolding IsLine
-goes-begin vlenb o w = ([], appends-none o, stands-none vlenb [] w tt)
+goes-begin vlenb o w = ([], prints-none o, stands-none vlenb [] w tt)
 
 -- what comes behind a line that asks for no more is not looked at
-pub goes-later : (vlenb : ℕ) (begun bytes : List ℕ) (k : ℕ) (last : List ℕ) (had has : Option (List ℕ)) (old new : Watch)
+pub goes-later : (vlenb : ℕ) (begun bytes : List ℕ) (k : ℕ) (last : List ℕ) (had has : Stream) (old new : Watch)
     → GoesOver vlenb (begun ++ take k bytes) last had has old new flow.Quit → GoesOver vlenb (begun ++ bytes) last had has old new flow.Quit
 goes-later vlenb begun bytes k last had has old new (text, told, q) =
     let all : begun ++ bytes ≡ (begun ++ take k bytes) ++ drop k bytes =
@@ -211,14 +211,9 @@ goes-later vlenb begun bytes k last had has old new (text, told, q) =
       },
     )
 
-pub goes-all : (vlenb : ℕ) (begun bytes : List ℕ) (k : ℕ) (last : List ℕ) (had has : Option (List ℕ)) (old new : Watch) → length bytes ≤ k
-    → GoesOver vlenb (begun ++ take k bytes) last had has old new flow.Go → GoesOver vlenb (begun ++ bytes) last had has old new flow.Go
-goes-all vlenb begun bytes k last had has old new all is =
-    subst (λ (l : List ℕ). GoesOver vlenb (begun ++ l) last had has old new flow.Go) (take_all k bytes all) is
-
 -- ---- the input
 
-pub talks-quit : (vlenb : ℕ) (before mid after had now has : Option (List ℕ)) (read left more last : List ℕ) (old w new : Watch) (g : Flow) → g ≡ flow.Quit
+pub talks-quit : (vlenb : ℕ) (before mid after : Option (List ℕ)) (had now has : Stream) (read left more last : List ℕ) (old w new : Watch) (g : Flow) → g ≡ flow.Quit
     → Consumes before mid read → GoesOver vlenb read left had now old w flow.Go → Consumes mid after more
     → (IsLine left → GoesOver vlenb (left ++ more) last now has w new g) → Talks vlenb before after had has old new
 talks-quit vlenb before mid after had now has read left more last old w new g same first some second next =
@@ -226,25 +221,15 @@ talks-quit vlenb before mid after had now has read left more last old w new g sa
     (λ line. subst (λ (h : Flow). GoesOver vlenb (left ++ more) last now has w new h) same (next line)) in
     record { bytes = read ++ more; read = consumes-more before mid after read more first second; text = q.0; told = q.1; lines = inl q.2 }
 
-pub talks-end : (vlenb : ℕ) (before after had has : Option (List ℕ)) (read : List ℕ) (old new : Watch)
-    → Consumes before after read → IsAtEnd after → GoesOver vlenb read [] had has old new flow.Go → Talks vlenb before after had has old new
-talks-end vlenb before after had has read old new first end (text, told, s) = record {
-  bytes = read;
-  read = first;
-  text = text;
-  told = told;
-  lines = inr (record { left = []; mid = new; some = text; answer = []; stands = s; last = (refl, refl); told = sym (append-nil text) }, end);
-}
-
-pub talks-last : (vlenb : ℕ) (before after had now has : Option (List ℕ)) (read left : List ℕ) (old w new : Watch) (f : Flow)
+pub talks-last : (vlenb : ℕ) (before after : Option (List ℕ)) (had now has : Stream) (read left : List ℕ) (old w new : Watch) (f : Flow)
     → Consumes before after read → IsAtEnd after → (left ≡ [] → ⊥) → GoesOver vlenb read left had now old w flow.Go
-    → (text : List ℕ) × Appends now has text × IsAnswered vlenb left w new text f → Talks vlenb before after had has old new
+    → (text : List ℕ) × Prints now has text × IsAnswered vlenb left w new text f → Talks vlenb before after had has old new
 talks-last vlenb before after had now has read [] old w new f first end some s a = absurd (some refl)
 talks-last vlenb before after had now has read (byte ∷ left) old w new f first end some (text, told, s) (answer, tells, a) = record {
   bytes = read;
   read = first;
   text = text ++ answer;
-  told = appends-more had now has text answer told tells;
+  told = prints-more had now has text answer told tells;
   lines = inr (record { left = byte ∷ left; mid = w; some = text; answer = answer; stands = s; last = (f, a); told = refl }, end);
 }
 
@@ -262,7 +247,7 @@ at-end b c buf (Err e) n is zero some more = cc
 at-end b c buf (Ok m) n is zero some more = more.1 (cc) some
 
 -- what was read and answered, and then more
-pub reads-on : (vlenb : ℕ) (a b c : Option (List ℕ)) (read left more last : List ℕ) (had mid has : Option (List ℕ)) (old w new : Watch) (g : Flow) → g ≡ flow.Go
+pub reads-on : (vlenb : ℕ) (a b c : Option (List ℕ)) (read left more last : List ℕ) (had mid has : Stream) (old w new : Watch) (g : Flow) → g ≡ flow.Go
     → Consumes a b read → GoesOver vlenb read left had mid old w flow.Go → Consumes b c more
     → (IsLine left → GoesOver vlenb (left ++ more) last mid has w new g)
     → (all : List ℕ) × Consumes a c all × GoesOver vlenb all last had has old new flow.Go

@@ -1,11 +1,12 @@
 -- What `check` does.
-use Rattle.std.specs.Prelude.{◌≡◌, ◌⊎◌, ◌++◌, codes, ℕ, List, [], Option, Some, None, Ok, Err, option_map, ◌==◌, if◌then◌else◌}
+use Rattle.std.specs.Prelude.{◌≡◌, ◌++◌, codes, ℕ, List, [], Some, None, Ok, option_map, ◌==◌, if◌then◌else◌}
 use Rattle.std.specs.Fmt.{decimal}
-use Rattle.std.specs.Io.KnownBytes.{Appends}
 use Rattle.cert_note.specs.declared.values.Budget.{Budget}
-use Rattle.commands.specs.Accepted.{IsOrWantAfter, accepted_of, certificate_in}
+use Rattle.commands.specs.Accepted.{accepted_of, certificate_in}
 use Rattle.commands.specs.Files.{Files, IsImageAt, IsNoImageAt}
-use Rattle.commands.specs.Words.{AcceptedView, Gains, Held, ImageView, Status, Stop, Text, Written, block_at}
+use Rattle.commands.specs.Steps.{StopsAt, StopsAtResult}
+use Rattle.commands.specs.Streams.{Change, Cuts, Prints, Wrote}
+use Rattle.commands.specs.Words.{AcceptedView, Gains, ImageView, Status, Stop, Text, Written, block_at}
 use Rattle.commands.specs.declared.stop.Status.TheVariants as status
 use Rattle.commands.specs.declared.stop.Stop.TheVariants as stop
 
@@ -25,32 +26,36 @@ abbrev pub bound_line : Budget → List ℕ
 bound_line budget =
     if budget.second_factor == 0 then single_line budget else double_line budget
 
--- ---- what is done: `old` and `new` are what standard output has before and after, and `was` and
--- `has` the files that were written
+-- the bound that the block at an accepted image's entry states
+abbrev pub IsBudget : AcceptedView → Budget → Type 0
+IsBudget accepted budget = option_map (λ block. block.budget)
+    (block_at accepted.image.entry accepted.certificate.blocks) ≡ Some budget
+
+-- ---- what is done: `c` is what is left
 
 -- `check`: the image at a path is accepted, and its bound is printed; no file is written
-pub record Checks (files : Files) (path : Text) (old new : Option (List ℕ))
-    (was has : Option Held) (s : Status) : Type 0 where
+pub record Checks (files : Files) (path : Text) (c : Change) (s : Status) : Type 0 where
   pub image : ImageView
   pub there : IsImageAt files path image
   pub accepted : AcceptedView
   pub passes : accepted_of None image ≡ Ok accepted
   pub budget : Budget
-  pub entry : option_map (λ block. block.budget)
-      (block_at accepted.image.entry accepted.certificate.blocks) ≡ Some budget
-  pub wrote : Gains was has []
-  pub told : Appends old new (bound_line budget)
+  pub entry : IsBudget accepted budget
+  pub wrote : Gains c.was c.has []
+  pub told : Prints c.old c.new (bound_line budget)
   pub done : s ≡ status.Done
 
--- ---- why it stops: `wrote xs` says that the files `xs` were written
+-- ---- why it stops
 
--- after the image was read: it is not accepted, or standard output takes no text
-abbrev pub StopsChecked : ImageView → Stop → Type 0
-StopsChecked image reason =
-    IsOrWantAfter (certificate_in image.certificate) (accepted_of None image) (Err reason)
-    ⊎ ((accepted : AcceptedView) × (accepted_of None image ≡ Ok accepted) × (reason ≡ stop.Output))
+-- after an image was accepted, and these files were written: standard output takes no more than the
+-- beginning of the line that tells its bound
+abbrev pub IsUntold : Change → AcceptedView → Written → Stop → Type 0
+IsUntold c accepted files reason = (budget : Budget) × IsBudget accepted budget
+    × (reason ≡ stop.Output) × Cuts c (bound_line budget) files
 
--- `check`: no image is read at the path, or afterwards; no file is written
-abbrev pub StopsCheck : Files → (Written → Type 0) → Text → Stop → Type 0
-StopsCheck files wrote path reason = (IsNoImageAt files path reason
-    ⊎ ((image : ImageView) × IsImageAt files path image × StopsChecked image reason)) × wrote []
+-- `check`: no image is read at the path, it is not accepted, or afterwards; no file is written
+abbrev pub StopsCheck : Files → Change → Text → Stop → Type 0
+StopsCheck files c path =
+    StopsAt (Wrote c) (IsNoImageAt files path) (IsImageAt files path) (λ image.
+    StopsAtResult (Wrote c) (certificate_in image.certificate) (accepted_of None image)
+    (λ accepted. IsUntold c accepted []))

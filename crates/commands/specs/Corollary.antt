@@ -1,5 +1,5 @@
 -- What subcommands come to over files that are known.
-use Rattle.std.specs.Prelude.{◌≡◌, ◌<◌, ◌++◌, ◌∷◌, [], Bool, ℕ, List, get_or, map, Some, None, Ok, option_map}
+use Rattle.std.specs.Prelude.{◌≡◌, ◌<◌, ◌++◌, ◌∷◌, [], Bool, ℕ, List, get_or, map, Some, None, Ok}
 use Rattle.block_checker.specs.Accepted.{AcceptedView}
 use Rattle.cert_note.specs.declared.values.Budget.{Budget}
 use Rattle.job_file.specs.Needs.{RunJob, TryJob, make_job_in, run_job_in, try_job_in}
@@ -9,14 +9,16 @@ use Rattle.job_file.specs.declared.values.RunParam.TheVariants as given
 use Rattle.region_mem.specs.declared.arguments.Arg.TheVariants as argument
 use Rattle.toml.specs.Parse.{parse_document}
 use Rattle.commands.specs.Accepted.{accepted_of}
-use Rattle.commands.specs.Checks.{bound_line}
+use Rattle.commands.specs.Checks.{IsBudget, bound_line}
 use Rattle.commands.specs.Ending.{status_of_end}
 use Rattle.commands.specs.Files.{bytes_at, image_in, outs_of}
 use Rattle.commands.specs.Makes.{accepted_in, made_of}
+use Rattle.commands.specs.Mons.{IsStopped}
 use Rattle.commands.specs.Runs.{run_of_job}
+use Rattle.commands.specs.Streams.{Exchange}
 use Rattle.commands.specs.Tries.{passed_by, trial_of}
 use Rattle.commands.specs.Trial.{told_of}
-use Rattle.commands.specs.Words.{Argument, Held, ImageView, Members, Status, Text, Written, block_at}
+use Rattle.commands.specs.Words.{Argument, Held, ImageView, Members, Status, Text, vlenb_of, Written}
 use Rattle.commands.specs.declared.trial.Trial.{Trial}
 
 -- the file is an image that is accepted at its own length, and this line tells its bound
@@ -26,8 +28,7 @@ pub record IsBoundOf (file line : List ℕ) : Type 0 where
   pub accepted : AcceptedView
   pub passes : accepted_of None image ≡ Ok accepted
   pub budget : Budget
-  pub entry : option_map (λ block. block.budget)
-      (block_at accepted.image.entry accepted.certificate.blocks) ≡ Some budget
+  pub entry : IsBudget accepted budget
   pub told : line ≡ bound_line budget
 
 -- what a place passes, of files that are known
@@ -105,7 +106,23 @@ pub record IsMadeOf (was has : Held) (path job_path out : Text) (old new : List 
   pub accepted : AcceptedView
   pub passes : accepted_in job bytes ≡ Ok accepted
   pub budget : Budget
-  pub entry : option_map (λ block. block.budget)
-      (block_at accepted.image.entry accepted.certificate.blocks) ≡ Some budget
+  pub entry : IsBudget accepted budget
   pub printed : new ≡ old ++ bound_line budget
   pub files : Adds was has ((out, bytes) ∷ [])
+
+-- the job's image is accepted, the lines of the input are answered on its run, and the out files,
+-- and no other, have the buffers as they stand where it is left: `e` is what is read and printed
+pub record IsWatchOf (was has : Held) (path : Text) (e : Exchange) : Type 0 where
+  pub table : Members
+  pub spells : IsTableOf was path table
+  pub job : RunJob Text
+  pub asked : run_job_in table ≡ Some job
+  pub image : ImageView
+  pub there : IsImageOf was job.image image
+  pub accepted : AcceptedView
+  pub passes : accepted_of (Some job.vlen) image ≡ Ok accepted
+  pub args : List Argument
+  pub passed : AreGiven was job.params args
+  pub kept : List Argument
+  pub stopped : IsStopped (vlenb_of job.vlen) job.agnostic job.max accepted args e kept
+  pub files : Adds was has (outs_of job.params kept)

@@ -1,11 +1,10 @@
 -- How the program ends: the reason to stop that each error is, the status of each reason, and each
 -- status as a number.
-use Rattle.std.specs.Prelude.{◌≡◌, ◌++◌, Bool, false, ℕ, List, [], Option, Result, Ok, Err, MatchResult, OnOk}
-use Rattle.std.specs.Io.KnownBytes.{Appends}
+use Rattle.std.specs.Prelude.{◌≡◌, ◌⊎◌, ◌++◌, Bool, false, true, ℕ, List, [], Result, Ok, Err, MatchResult}
 use Rattle.block_checker.specs.declared.errors.CheckError.TheVariants as check_error
 use Rattle.cert_maker.specs.declared.errors.MakeError.{MakeError}
 use Rattle.cert_maker.specs.declared.errors.MakeError.TheVariants as make_error
-use Rattle.commands.specs.Words.{CertError, CheckError, ElfError, JobError, OpenError, Status, Stop}
+use Rattle.commands.specs.Words.{CertError, CheckError, ElfError, Halt, JobError, OpenError, Status, Stop}
 use Rattle.cert_note.specs.declared.refusals.CertError.TheVariants as certificate_error
 use Rattle.elf_image.specs.declared.error.ElfError.TheVariants as image_error
 use Rattle.sandbox_run.specs.declared.outcome.OpenError.TheVariants as open_error
@@ -17,9 +16,11 @@ use Rattle.commands.specs.declared.store.StoreError.{StoreError}
 use Rattle.commands.specs.declared.store.StoreError.TheVariants as store_error
 use Rattle.commands.specs.declared.trial.End.{End}
 use Rattle.commands.specs.declared.trial.End.TheVariants as end
-use Rattle.commands.specs.More.{IsMore}
+use Rattle.commands.specs.Did.{did_text, status_with}
+use Rattle.commands.specs.Halt.{halt_text, stop_of}
 use Rattle.commands.specs.Texts.{stop_text}
-use Rattle.commands.specs.declared.stop.Ending.{Ending}
+use Rattle.commands.specs.declared.did.Did.{Did}
+use Rattle.commands.specs.Streams.{IsTold, Stream}
 use Rattle.commands.specs.declared.stop.Status.TheVariants as status
 use Rattle.commands.specs.declared.stop.Stop.TheVariants as stop
 
@@ -105,23 +106,32 @@ abbrev pub text_after : Result Status Stop → List ℕ
 text_after (Ok s) = []
 text_after (Err reason) = stop_text reason
 
--- whether more is told behind it: where that is asked for, unless memory ran out or standard output
--- takes no text
-abbrev pub tells_more : Bool → Result Status Stop → Bool
-tells_more explains (Err stop.Memory) = false
-tells_more explains (Err stop.Output) = false
-tells_more explains other = explains
+-- what was done, or the reason to stop, without what more is told of it
+abbrev pub plain : Result Did Halt → Result Status Stop
+plain (Ok did) = Ok (status_with did)
+plain (Err why) = Err (stop_of why)
+
+-- what more is told of it, where it is to explain
+abbrev pub more_if : Bool → Result Did Halt → List ℕ
+more_if false came = []
+more_if true (Ok did) = did_text did
+more_if true (Err why) = halt_text why
+
+-- this is told of it, or nothing where memory ran out
+abbrev pub IsMore : Bool → Result Did Halt → List ℕ → Type 0
+IsMore explains came more = (more ≡ more_if explains came) ⊎ (more ≡ [])
+
+-- on standard error the reason's line is told, and behind it, where it is to explain, exactly what
+-- more is told of that reason
+abbrev pub Tells : Bool → Result Did Halt → Stream → Stream → Type 0
+Tells explains came old new = (more : List ℕ) × IsMore explains came more
+    × IsTold old new (text_after (plain came) ++ more)
 
 -- a subcommand does what it does, or stops for one of its reasons: the status says which, and
--- standard error has grown by the reason's line, and, where it is to explain, by more of that
--- reason behind it, where it took that. `old` and `new` are what it has before and after
+-- standard error tells why. `old` and `new` are what that has before and after
 pub record Ends (explains : Bool) (does : Status → Type 0) (stops : Stop → Type 0)
-    (old new : Option (List ℕ)) (ending : Ending) : Type 0 where
-  pub done : Result Status Stop
-  pub comes : MatchResult done does stops
-  pub status : ending.status ≡ status_after done
-  pub more : List ℕ
-  pub unasked : explains ≡ false → more ≡ []
-  pub silent : tells_more explains done ≡ false → more ≡ []
-  pub fits : IsMore done more
-  pub told : OnOk ending.told (Appends old new (text_after done ++ more))
+    (old new : Stream) (s : Status) : Type 0 where
+  pub came : Result Did Halt
+  pub comes : MatchResult (plain came) does stops
+  pub status : s ≡ status_after (plain came)
+  pub told : Tells explains came old new

@@ -12,6 +12,7 @@ use Rattle.toml.specs.Parse.{parse_document}
 use Rattle.commands.specs.Accepted.{OrMemory}
 use Rattle.commands.specs.Ending.{IsOfFile, stop_of_image}
 use Rattle.commands.specs.Steps.{StopsAt}
+use Rattle.commands.specs.Streams.{Change, Cuts, Wrote}
 use Rattle.commands.specs.Words.{Argument, ElfError, Gains, Held, ImageView, Members, Status, Stop, Text, Written}
 use Rattle.commands.specs.declared.store.StoreError.{StoreError}
 use Rattle.commands.specs.declared.store.StoreError.TheVariants as store_error
@@ -173,9 +174,9 @@ AreWritten files old new params args (Ok done) = Gains old new (outs_of params a
 AreWritten files old new params args (Err reason) =
     IsUnwritten files (Gains old new) params args reason
 
--- why a run that ended is not told: an out file is not written, or, after all were, standard
--- output takes no text
-abbrev pub IsUnfinished : Files → (Written → Type 0) → List (RunParam Text) → List Argument → Stop
+-- why a run that ended is not told by a text: an out file is not written, or, after all were,
+-- standard output takes no more than the text's beginning
+abbrev pub IsUnfinished : Files → Change → List (RunParam Text) → List Argument → List ℕ → Stop
     → Type 0
-IsUnfinished files wrote params args reason = IsUnwritten files wrote params args reason
-    ⊎ ((reason ≡ stop.Output) × wrote (outs_of params args))
+IsUnfinished files c params args text reason = IsUnwritten files (Wrote c) params args reason
+    ⊎ ((reason ≡ stop.Output) × Cuts c text (outs_of params args))

@@ -1,7 +1,6 @@
 -- What `make` does.
-use Rattle.std.specs.Prelude.{◌≡◌, ◌⊎◌, ◌∷◌, [], ℕ, List, Option, Some, None, Result, Ok, Err, option_map}
+use Rattle.std.specs.Prelude.{◌≡◌, ◌⊎◌, ◌∷◌, [], ℕ, List, Option, Some, None, Result, Ok, Err}
 use Rattle.std.specs.Global.{Vec}
-use Rattle.std.specs.Io.KnownBytes.{Appends}
 use Rattle.std.specs.Result.{result_map_both}
 use Rattle.cert_maker.specs.Certificates as maker
 use Rattle.cert_maker.specs.Loops.{loop_of}
@@ -16,11 +15,13 @@ use Rattle.job_file.specs.declared.values.MakeJob.{MakeJob}
 use Rattle.region_mem.specs.Parameter.{parameters_of}
 use Rattle.region_mem.specs.declared.parameter.Param.{Param}
 use Rattle.commands.specs.Accepted.{IsOrWant, accepted_of}
-use Rattle.commands.specs.Checks.{bound_line}
+use Rattle.commands.specs.Checks.{IsBudget, IsUntold, bound_line}
 use Rattle.commands.specs.Ending.{IsOfFile}
 use Rattle.commands.specs.Files.{Files, image_in, unless_fault}
+use Rattle.commands.specs.Halt.{stop_of}
 use Rattle.commands.specs.Steps.{StopsAt, StopsAtJob, StopsAtResult}
-use Rattle.commands.specs.Words.{AcceptedView, CertificateView, Gains, Held, ImageView, Members, Status, Stop, Text, Written, block_at}
+use Rattle.commands.specs.Streams.{Change, Prints, Wrote}
+use Rattle.commands.specs.Words.{AcceptedView, CertificateView, Gains, Halt, ImageView, Members, Status, Stop, Text}
 use Rattle.commands.specs.declared.stop.Status.TheVariants as status
 use Rattle.commands.specs.declared.stop.Stop.TheVariants as stop
 
@@ -67,21 +68,20 @@ accepted_in job bytes = do
   accepted_of (Some job.vlen) image
 
 -- an answer's bytes, or its reason to stop
-abbrev pub bytes_of : Result (Vec ℕ) Stop → Result (List ℕ) Stop
-bytes_of answer = result_map_both (λ bytes. bytes.items) (λ reason. reason) answer
+abbrev pub bytes_of : Result (Vec ℕ) Halt → Result (List ℕ) Stop
+bytes_of answer = result_map_both (λ bytes. bytes.items) stop_of answer
 
 -- they are what is defined, or it is want of memory
-abbrev pub AnswersBytes : Result (List ℕ) Stop → Result (Vec ℕ) Stop → Type 0
+abbrev pub AnswersBytes : Result (List ℕ) Stop → Result (Vec ℕ) Halt → Type 0
 AnswersBytes defined answer = IsOrWant defined (bytes_of answer)
 
--- ---- what is done: `old` and `new` are what standard output has before and after, and `was` and
--- `has` the files that were written
+-- ---- what is done: `c` is what is left
 
 -- `make` on a job's table, an image's path and the path of the file to write: the image's file
 -- with the certificate that is made is accepted when it is read back, and written, and its
 -- bound is printed
-pub record Makes (files : Files) (path out : Text) (table : Members) (old new : Option (List ℕ))
-    (was has : Option Held) (s : Status) : Type 0 where
+pub record Makes (files : Files) (path out : Text) (table : Members) (c : Change) (s : Status)
+    : Type 0 where
   pub job : MakeJob
   pub asked : make_job_in table ≡ Some job
   pub file : List ℕ
@@ -90,25 +90,24 @@ pub record Makes (files : Files) (path out : Text) (table : Members) (old new : 
   pub made : made_of job file ≡ Ok bytes
   pub accepted : AcceptedView
   pub passes : accepted_in job bytes ≡ Ok accepted
-  pub wrote : Gains was has ((out, bytes) ∷ [])
+  pub wrote : Gains c.was c.has ((out, bytes) ∷ [])
   pub budget : Budget
-  pub entry : option_map (λ block. block.budget)
-      (block_at accepted.image.entry accepted.certificate.blocks) ≡ Some budget
-  pub told : Appends old new (bound_line budget)
+  pub entry : IsBudget accepted budget
+  pub told : Prints c.old c.new (bound_line budget)
   pub done : s ≡ status.Done
 
--- ---- why it stops: `wrote xs` says that the files `xs` were written
+-- ---- why it stops
 
--- after the file was made and accepted: it is not written, or standard output takes no text
-abbrev pub StopsMade : Files → (Written → Type 0) → Text → List ℕ → Stop → Type 0
-StopsMade files wrote out bytes reason = (IsOfFile files.unwritten out reason × wrote [])
-    ⊎ ((reason ≡ stop.Output) × wrote ((out, bytes) ∷ []))
+-- after the file was made and accepted: it is not written, or its bound is not told
+abbrev pub StopsMade : Files → Change → Text → List ℕ → AcceptedView → Stop → Type 0
+StopsMade files c out bytes accepted reason =
+    (IsOfFile files.unwritten out reason × Wrote c [])
+    ⊎ IsUntold c accepted ((out, bytes) ∷ []) reason
 
 -- `make` on a job's table: it asks for no job, the image's file is not read, none is made of it,
 -- that is not accepted when it is read back, or afterwards
-abbrev pub StopsMake : Files → (Written → Type 0) → Text → Text → Members → Stop → Type 0
-StopsMake files wrote path out table = StopsAtJob wrote (make_job_in table) (λ job.
-    StopsAt wrote (IsOfFile files.unread path) (files.holds path) (λ file.
-    StopsAtResult wrote (image_in file) (made_of job file) (λ bytes.
-    StopsAtResult wrote (image_in bytes) (accepted_in job bytes) (λ accepted.
-    StopsMade files wrote out bytes))))
+abbrev pub StopsMake : Files → Change → Text → Text → Members → Stop → Type 0
+StopsMake files c path out table = StopsAtJob (Wrote c) (make_job_in table) (λ job.
+    StopsAt (Wrote c) (IsOfFile files.unread path) (files.holds path) (λ file.
+    StopsAtResult (Wrote c) (image_in file) (made_of job file) (λ bytes.
+    StopsAtResult (Wrote c) (image_in bytes) (accepted_in job bytes) (StopsMade files c out bytes))))

@@ -1,5 +1,6 @@
 -- What `mon` does.
 use Rattle.std.specs.Prelude.{◌≡◌, ◌⊎◌, codes, ℕ, List, Option, Some, None}
+use Rattle.rv_listing.specs.Sinks.{IsCounted}
 use Rattle.job_file.specs.Needs.{RunJob}
 use Rattle.region_mem.specs.Memory.{args_of}
 use Rattle.sandbox_run.specs.Session.{IsOpened, SessionView, open_fault}
@@ -8,7 +9,8 @@ use Rattle.commands.specs.Ending.{stop_of_open}
 use Rattle.commands.specs.Files.{Files, IsUnwritten, outs_of}
 use Rattle.commands.specs.Starts.{IsStarted, StopsStarting}
 use Rattle.commands.specs.Steps.{StopsAt}
-use Rattle.commands.specs.Talks.{AreTold, Exchange}
+use Rattle.commands.specs.Streams.{Exchange, IsQuiet, IsUnread, Prints, Stream}
+use Rattle.commands.specs.Talks.{AreTold}
 use Rattle.commands.specs.Words.{AcceptedView, Agnostic, Argument, Gains, Held, Members, OpenError, start, Status, Stop, Text, vlenb_of, Written}
 use Rattle.commands.specs.declared.stop.Status.TheVariants as status
 use Rattle.commands.specs.declared.stop.Stop.TheVariants as stop
@@ -47,31 +49,51 @@ pub record Mons (files : Files) (table : Members) (e : Exchange) (was has : Opti
 
 -- ---- why it stops: `wrote xs` says that the files `xs` were written
 
--- why a line is not answered: memory ran out, standard output takes no text, or the
--- input has no end
-abbrev pub IsUnanswered : Stop → Type 0
-IsUnanswered stop.Memory = Unit {0}
-IsUnanswered stop.Output = Unit {0}
-IsUnanswered (stop.File at) = at.now ≡ codes "-"
-IsUnanswered other = ⊥
+-- all that was told, some text, was printed
+abbrev pub HasPrinted : Stream → Stream → Type 0
+HasPrinted had has = (text : List ℕ) × Prints had has text
+
+-- why a line that was read is not answered: memory ran out, or a write to standard output failed
+abbrev pub IsBroken : Stream → Stream → Stop → Type 0
+IsBroken had has stop.Memory = HasPrinted had has
+IsBroken had has stop.Output = IsCounted had.failures has.failures
+IsBroken had has other = ⊥
+
+-- a reason that the input gives
+abbrev pub IsOfInput : Stop → Type 0
+IsOfInput stop.Memory = Unit {0}
+IsOfInput (stop.File at) = at.now ≡ codes "-"
+IsOfInput other = ⊥
+
+-- why a line is not answered: one that was read is not, or the input is not read on, in at most so
+-- many reads
+abbrev pub IsUnanswered : ℕ → Exchange → Stop → Type 0
+IsUnanswered most e reason = IsBroken e.had e.has reason
+    ⊎ (IsOfInput reason × IsUnread most e.before e.after × HasPrinted e.had e.has)
 
 -- why no run is opened: its fault, or else want of memory
 abbrev pub IsUnopened : Option OpenError → Stop → Type 0
 IsUnopened (Some error) reason = reason ≡ stop_of_open error
 IsUnopened None reason = reason ≡ stop.Memory
 
-abbrev pub StopsWatching : ℕ → ℕ → AcceptedView → List Argument → Stop → Type 0
-StopsWatching vlenb max a args reason =
-    IsUnopened (open_fault vlenb a args max) reason ⊎ IsUnanswered reason
+-- no run is opened, and nothing is read or printed, or a line is not answered
+abbrev pub StopsWatching : ℕ → ℕ → ℕ → AcceptedView → List Argument → Exchange → Stop → Type 0
+StopsWatching most vlenb max a args e reason =
+    (IsUnopened (open_fault vlenb a args max) reason × IsQuiet e) ⊎ IsUnanswered most e reason
 
 -- after it was started: no run is opened, a line is not answered, or an out file is not written
-abbrev pub StopsWatched : Files → Exchange → (Written → Type 0) → RunJob Text → AcceptedView
+abbrev pub StopsWatched : ℕ → Files → Exchange → (Written → Type 0) → RunJob Text → AcceptedView
     → List Argument → Stop → Type 0
-StopsWatched files e wrote job accepted args =
-    StopsAt wrote (StopsWatching (vlenb_of job.vlen) job.max accepted args)
+StopsWatched most files e wrote job accepted args =
+    StopsAt wrote (StopsWatching most (vlenb_of job.vlen) job.max accepted args e)
     (IsStopped (vlenb_of job.vlen) job.agnostic job.max accepted args e)
     (IsUnwritten files wrote job.params)
 
--- `mon` on a job's table: it is not started, or afterwards
-abbrev pub StopsMon : Files → Exchange → (Written → Type 0) → Members → Stop → Type 0
-StopsMon files e wrote = StopsStarting files wrote (StopsWatched files e wrote)
+-- no file was written, and nothing was read or printed
+abbrev pub BeforeAll : Exchange → (Written → Type 0) → Written → Type 0
+BeforeAll e wrote files = wrote files × IsQuiet e
+
+-- `mon` on a job's table, with at most so many reads of its input: it is not started, or afterwards
+abbrev pub StopsMon : ℕ → Files → Exchange → (Written → Type 0) → Members → Stop → Type 0
+StopsMon most files e wrote =
+    StopsStarting files (BeforeAll e wrote) (StopsWatched most files e wrote)

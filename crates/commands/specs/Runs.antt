@@ -1,14 +1,14 @@
 -- What `run` does.
 use Rattle.std.specs.Prelude.{◌≡◌, Bool, ℕ, List, Option, Some, None, Result, Ok, Err}
-use Rattle.std.specs.Io.KnownBytes.{Appends}
 use Rattle.block_checker.specs.Bound.{bound_of, scalars_of}
 use Rattle.job_file.specs.Needs.{RunJob}
 use Rattle.sandbox_run.specs.Session.{open_fault}
 use Rattle.commands.specs.Ending.{status_of_end, stop_of_open}
 use Rattle.commands.specs.Files.{Files, outs_of}
 use Rattle.commands.specs.Starts.{IsStarted, StopsStarting}
+use Rattle.commands.specs.Streams.{Change, Prints, Wrote}
 use Rattle.commands.specs.Trial.{StopsAtTrial, told_of, trial_from}
-use Rattle.commands.specs.Words.{AcceptedView, Agnostic, Argument, Gains, Held, Members, OpenError, start, Status, Stop, Text, vlenb_of, Written}
+use Rattle.commands.specs.Words.{AcceptedView, Agnostic, Argument, Gains, Members, OpenError, start, Status, Stop, Text, vlenb_of}
 use Rattle.commands.specs.declared.trial.Trial.{Trial}
 
 -- ---- a job's run
@@ -29,32 +29,31 @@ session_of vlenb agnostic max a args = if_opened vlenb agnostic a args (open_fau
 abbrev pub run_of_job : RunJob Text → AcceptedView → List Argument → Result Trial Stop
 run_of_job job a args = session_of (vlenb_of job.vlen) job.agnostic job.max a args
 
--- ---- what is done: `old` and `new` are what standard output has before and after, and `was` and
--- `has` the files that were written
+-- ---- what is done: `c` is what is left
 
 -- `run` on a job's table: the job's image is accepted, what comes of the job on it is printed, with
 -- the registers or without, and the out files of all places were written with the buffers as the
 -- run left them
-pub record Runs (files : Files) (registers : Bool) (table : Members) (old new : Option (List ℕ))
-    (was has : Option Held) (s : Status) : Type 0 where
+pub record Runs (files : Files) (registers : Bool) (table : Members) (c : Change) (s : Status)
+    : Type 0 where
   pub job : RunJob Text
   pub accepted : AcceptedView
   pub args : List Argument
   pub started : IsStarted files table job accepted args
   pub trial : Trial
   pub comes : run_of_job job accepted args ≡ Ok trial
-  pub wrote : Gains was has (outs_of job.params trial.args.places)
-  pub told : Appends old new (told_of registers trial)
+  pub wrote : Gains c.was c.has (outs_of job.params trial.args.places)
+  pub told : Prints c.old c.new (told_of registers trial)
   pub done : s ≡ status_of_end trial.end
 
--- ---- why it stops: `wrote xs` says that the files `xs` were written
+-- ---- why it stops
 
 -- after it was started: no run starts, or its outcome is not written or told
-abbrev pub StopsRan : Files → (Written → Type 0) → RunJob Text → AcceptedView → List Argument
-    → Stop → Type 0
-StopsRan files wrote job accepted args =
-    StopsAtTrial files wrote job.params (run_of_job job accepted args)
+abbrev pub StopsRan : Files → Bool → Change → RunJob Text → AcceptedView → List Argument → Stop
+    → Type 0
+StopsRan files registers c job accepted args =
+    StopsAtTrial files c registers job.params (run_of_job job accepted args)
 
 -- `run` on a job's table: it is not started, or afterwards
-abbrev pub StopsRun : Files → (Written → Type 0) → Members → Stop → Type 0
-StopsRun files wrote = StopsStarting files wrote (StopsRan files wrote)
+abbrev pub StopsRun : Files → Bool → Change → Members → Stop → Type 0
+StopsRun files registers c = StopsStarting files (Wrote c) (StopsRan files registers c)

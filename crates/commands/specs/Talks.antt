@@ -1,6 +1,6 @@
 -- What `mon` answers to the lines of its input.
 use Rattle.std.specs.Prelude.{◌≡◌, ◌⊎◌, ◌++◌, codes, ℕ, List, [], ◌∷◌, Option, Result, Ok, Err}
-use Rattle.std.specs.Io.KnownBytes.{Appends, Consumes, IsAtEnd}
+use Rattle.std.specs.Io.KnownBytes.{Consumes, IsAtEnd}
 use Rattle.std.specs.Str.{IsUtf8}
 use Rattle.monitor.specs.Commands.{Carries, flow_of, order_of, text_of}
 use Rattle.monitor.specs.declared.commands.Command.{Command}
@@ -9,6 +9,7 @@ use Rattle.monitor.specs.declared.commands.Flow.TheVariants as flow
 use Rattle.monitor.specs.declared.commands.MonError.{MonError}
 use Rattle.monitor.specs.declared.commands.MonError.TheVariants as error
 use Rattle.sandbox_run.specs.Session.{SessionView}
+use Rattle.commands.specs.Streams.{Exchange, Prints, Stream}
 use Rattle.commands.specs.Texts.{monitor_error_name}
 
 -- a run, and the addresses at which it stops
@@ -101,12 +102,11 @@ pub record Quits (vlenb : ℕ) (bytes : List ℕ) (old new : Watch) (text : List
   pub told : text ≡ some ++ answer
 
 -- bytes behind the beginning of a line, up to a line that asks for no more: what is left of them
-abbrev pub GoesOver : ℕ → List ℕ → List ℕ → Option (List ℕ) → Option (List ℕ) → Watch → Watch
-    → Flow → Type 0
+abbrev pub GoesOver : ℕ → List ℕ → List ℕ → Stream → Stream → Watch → Watch → Flow → Type 0
 GoesOver vlenb bytes left had has old new flow.Go =
-    (text : List ℕ) × Appends had has text × Stands vlenb bytes left old new text
+    (text : List ℕ) × Prints had has text × Stands vlenb bytes left old new text
 GoesOver vlenb bytes left had has old new flow.Quit =
-    (text : List ℕ) × Appends had has text × Quits vlenb bytes old new text
+    (text : List ℕ) × Prints had has text × Quits vlenb bytes old new text
 
 -- the last line needs no end: what is left at the end is one, if it is anything
 abbrev pub IsLast : ℕ → List ℕ → Watch → Watch → List ℕ → Type 0
@@ -125,26 +125,15 @@ pub record IsAll (vlenb : ℕ) (bytes : List ℕ) (old new : Watch) (text : List
 
 -- the lines of an input are answered, up to one that asks for no more, or to the end: `before` and
 -- `after` are what is left of the input, and `had` and `has` what standard output has
-pub record Talks (vlenb : ℕ) (before after had has : Option (List ℕ)) (old new : Watch) : Type 0
-  where
-    pub bytes : List ℕ
-    pub read : Consumes before after bytes
-    pub text : List ℕ
-    pub told : Appends had has text
-    pub lines : Quits vlenb bytes old new text ⊎ (IsAll vlenb bytes old new text × IsAtEnd after)
-
--- what is left of an input, and what standard output has, before and after
-pub record Exchange : Type 0 where
-  pub before : Option (List ℕ)
-  pub after : Option (List ℕ)
-  pub had : Option (List ℕ)
-  pub has : Option (List ℕ)
-
-abbrev pub exchange : Option (List ℕ) → Option (List ℕ) → Option (List ℕ) → Option (List ℕ)
-    → Exchange
-exchange before after had has = record { before = before; after = after; had = had; has = has }
+pub record Talks (vlenb : ℕ) (before after : Option (List ℕ)) (had has : Stream)
+    (old new : Watch) : Type 0 where
+  pub bytes : List ℕ
+  pub read : Consumes before after bytes
+  pub text : List ℕ
+  pub told : Prints had has text
+  pub lines : Quits vlenb bytes old new text ⊎ (IsAll vlenb bytes old new text × IsAtEnd after)
 
 -- the same of a run that was opened, without a breakpoint, and how it is left
 abbrev pub AreTold : ℕ → Exchange → SessionView → SessionView → Type 0
 AreTold vlenb e opened left = (breakpoints : List ℕ)
-    × Talks vlenb e.before e.after e.had e.has (watch [] opened) (watch breakpoints left)
+    × Talks vlenb e.before.rest e.after.rest e.had e.has (watch [] opened) (watch breakpoints left)

@@ -14,7 +14,8 @@ use Rattle.region_mem.specs.Digits.{digits_text}
 pub use Rattle.commands.specs.Accepted.{OrMemory}
 use Rattle.commands.specs.Files.{Files, IsUnfinished}
 use Rattle.commands.specs.Steps.{StopsAt}
-use Rattle.commands.specs.Words.{Machine, Stop, Text, Written}
+use Rattle.commands.specs.Streams.{Change, Wrote}
+use Rattle.commands.specs.Words.{Machine, Stop, Text}
 use Rattle.commands.specs.declared.trial.End.{End}
 use Rattle.commands.specs.declared.trial.End.TheVariants as end
 use Rattle.commands.specs.declared.trial.Trial.{Trial}
@@ -37,13 +38,6 @@ trial_at (stopped.OutOfSteps last) = trial_in end.OutOfSteps last
 -- what comes of a run from a state on, with at most `max` steps
 abbrev pub trial_from : ℕ → ℕ → Machine → Trial
 trial_from vlenb max m = trial_at (answer_of vlenb (outcome vlenb max m))
-
--- why it stops, where this is what is defined of a run: it does not start, or its outcome is not
--- written or told
-abbrev pub StopsAtTrial : Files → (Written → Type 0) → List (RunParam Text) → Result Trial Stop
-    → Stop → Type 0
-StopsAtTrial files wrote params defined = StopsAt wrote (λ reason. OrMemory defined (Err reason))
-    (λ trial. defined ≡ Ok trial) (λ trial. IsUnfinished files wrote params trial.args.places)
 
 -- ---- how it is told
 
@@ -68,5 +62,13 @@ shown_of true trial = state_text trial.registers trial.vlenb
 
 -- what is told of a run: its line, and the registers behind it where they are asked for
 abbrev pub told_of : Bool → Trial → List ℕ
-told_of false trial = line_of trial
-told_of true trial = line_of trial ++ shown_of true trial
+told_of asked trial = line_of trial ++ shown_of asked trial
+
+-- ---- why it stops
+
+-- where this is what is defined of a run: it does not start, or its outcome is not written or told
+abbrev pub StopsAtTrial : Files → Change → Bool → List (RunParam Text) → Result Trial Stop → Stop
+    → Type 0
+StopsAtTrial files c asked params defined =
+    StopsAt (Wrote c) (λ reason. OrMemory defined (Err reason)) (λ trial. defined ≡ Ok trial)
+    (λ trial. IsUnfinished files c params trial.args.places (told_of asked trial))

@@ -1,6 +1,5 @@
 -- What `try` does.
 use Rattle.std.specs.Prelude.{◌≡◌, ◌-◌, ◌^◌, Bool, ℕ, min, List, length, map, Option, Some, None, Result, Ok, Err}
-use Rattle.std.specs.Io.KnownBytes.{Appends}
 use Rattle.std.specs.List.{zip}
 use Rattle.job_file.specs.Needs.{try_job_in}
 use Rattle.job_file.specs.declared.values.JobError.TheVariants.{BadKey}
@@ -18,8 +17,9 @@ use Rattle.sandbox_run.specs.Errors.{open_error_of}
 use Rattle.commands.specs.Ending.{status_of_end}
 use Rattle.commands.specs.Files.{ArePassed, Files, IsImageAt, IsNoImageAt, IsUnpassed, outs_of}
 use Rattle.commands.specs.Steps.{StopsAt, StopsAtJob}
+use Rattle.commands.specs.Streams.{Change, Prints, Wrote}
 use Rattle.commands.specs.Trial.{StopsAtTrial, told_of, trial_from}
-use Rattle.commands.specs.Words.{Agnostic, Argument, Gains, Held, ImageView, Members, start, Status, Stop, Text, vlenb_of, Written}
+use Rattle.commands.specs.Words.{Agnostic, Argument, Gains, ImageView, Members, start, Status, Stop, Text, vlenb_of}
 use Rattle.commands.specs.declared.stop.Stop.TheVariants as stop
 use Rattle.commands.specs.declared.trial.Trial.{Trial}
 
@@ -74,13 +74,12 @@ passed_by taken.None = given.None
 passed_by (taken.Scalar value) = given.Scalar value
 passed_by (taken.Buffer mode file out) = given.Buffer file out
 
--- ---- what is done: `old` and `new` are what standard output has before and after, and `was` and
--- `has` the files that were written
+-- ---- what is done: `c` is what is left
 
 -- `try` on a job's table: what comes of the job on its image is printed, with the registers or
 -- without, and the out files of all places were written with the buffers as the run left them
-pub record Tries (files : Files) (registers : Bool) (table : Members) (old new : Option (List ℕ))
-    (was has : Option Held) (s : Status) : Type 0 where
+pub record Tries (files : Files) (registers : Bool) (table : Members) (c : Change) (s : Status)
+    : Type 0 where
   pub job : TryJob Text
   pub asked : try_job_in table ≡ Some job
   pub image : ImageView
@@ -89,17 +88,17 @@ pub record Tries (files : Files) (registers : Bool) (table : Members) (old new :
   pub passed : ArePassed files (map passed_by job.params) args
   pub trial : Trial
   pub comes : trial_of job image args ≡ Ok trial
-  pub wrote : Gains was has (outs_of (map passed_by job.params) trial.args.places)
-  pub told : Appends old new (told_of registers trial)
+  pub wrote : Gains c.was c.has (outs_of (map passed_by job.params) trial.args.places)
+  pub told : Prints c.old c.new (told_of registers trial)
   pub done : s ≡ status_of_end trial.end
 
--- ---- why it stops: `wrote xs` says that the files `xs` were written
+-- ---- why it stops
 
 -- `try` on a job's table: it asks for no job, the image or what is passed is not read, no run
 -- starts, or its outcome is not written or told
-abbrev pub StopsTry : Files → (Written → Type 0) → Members → Stop → Type 0
-StopsTry files wrote table = StopsAtJob wrote (try_job_in table) (λ job.
+abbrev pub StopsTry : Files → Bool → Change → Members → Stop → Type 0
+StopsTry files registers c table = StopsAtJob (Wrote c) (try_job_in table) (λ job.
     let params = map passed_by job.params in
-    StopsAt wrote (IsNoImageAt files job.image) (IsImageAt files job.image) (λ image.
-    StopsAt wrote (IsUnpassed files params) (ArePassed files params) (λ args.
-    StopsAtTrial files wrote params (trial_of job image args))))
+    StopsAt (Wrote c) (IsNoImageAt files job.image) (IsImageAt files job.image) (λ image.
+    StopsAt (Wrote c) (IsUnpassed files params) (ArePassed files params) (λ args.
+    StopsAtTrial files c registers params (trial_of job image args))))

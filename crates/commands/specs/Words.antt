@@ -15,6 +15,7 @@ pub use Rattle.block_checker.specs.declared.errors.CheckError.{CheckError}
 pub use Rattle.job_file.specs.Job.{Text}
 pub use Rattle.job_file.specs.declared.values.JobError.{JobError}
 pub use Rattle.toml.specs.Data.{Members}
+pub use Rattle.commands.specs.declared.halt.Halt.{Halt}
 pub use Rattle.commands.specs.declared.stop.Status.{Status}
 pub use Rattle.commands.specs.declared.stop.Stop.{Stop}
 pub use Rattle.commands.specs.Written.{Gains, Held, Written}

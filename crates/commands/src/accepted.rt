@@ -2,31 +2,27 @@
 ghost use Rattle.std.specs.Prelude.{◌≡◌, Err, IfErr, IfOk};
 ghost use Rattle.block_checker.specs.Accepted.{Passes};
 ghost use Rattle.commands.specs.Accepted.{IsOrWant, accepted_of, certificate_in};
+ghost use Rattle.commands.specs.Halt.{bare};
 ghost use Rattle.commands.specs.Trial.{OrMemory};
 
-use crate::more::More;
-use crate::stop::Stop;
-use crate::why::{Why, note_certificate, note_check};
-use block_checker::{Accepted, check};
-use cert_note::Certificate;
+use crate::halt::Halt;
+use crate::why::{bad_certificate, not_accepted};
+use block_checker::{Accepted, check_kept};
+use cert_note::{Certificate, read_kept};
 use elf_image::Image;
 use std::alloc::Global;
 use vreg_groups::Vlen;
 
 /// The certificate in an image's note.
-fn certificate_in<'a>(alloc: Global, image: &Image, why: &mut Why) -> Result<Certificate, Stop<'a>>
-    ensures { OrMemory (certificate_in image.now.certificate) result }
+fn certificate_in<'a>(alloc: Global, image: &Image) -> Result<Certificate, Halt<'a>>
+    ensures { OrMemory (certificate_in image.now.certificate) (bare result) }
 {
     let Some(bytes) = image.certificate() else {
-        why.note(More::NoCertificate);
-        return Err(Stop::NoCertificate);
+        return Err(Halt::NoCertificate);
     };
-    match cert_note::read(alloc, bytes) {
+    match read_kept(alloc, bytes) {
         Ok(certificate) => Ok(certificate),
-        Err(error) => {
-            note_certificate(alloc, bytes, error, why);
-            Err(Stop::from(error))
-        }
+        Err(refusal) => Err(bad_certificate(bytes, refusal)),
     }
 }
 
@@ -34,24 +30,16 @@ fn certificate_in<'a>(alloc: Global, image: &Image, why: &mut Why) -> Result<Cer
 /// certificate's own where that is `None`.
 ///
 /// `NoCertificate` and the error of a certificate that can't be read come before the check's error, and before want of memory.
-pub fn accept<'a>(
-    alloc: Global,
-    image: Image,
-    vlen: Option<Vlen>,
-    why: &mut Why,
-) -> Result<Accepted, Stop<'a>>
+pub fn accept<'a>(alloc: Global, image: Image, vlen: Option<Vlen>) -> Result<Accepted, Halt<'a>>
     ensures certificate { IfErr (certificate_in image.certificate)
-        (λ reason. result ≡ Err reason) }
-    ensures answer { IsOrWant (accepted_of vlen image) result }
+        (λ reason. bare result ≡ Err reason) }
+    ensures answer { IsOrWant (accepted_of vlen image) (bare result) }
     ensures passes { IfOk result Passes }
 {
-    let certificate = certificate_in(alloc, &image, why)?;
+    let certificate = certificate_in(alloc, &image)?;
     let vlen = vlen.unwrap_or(certificate.contents().vlen);
-    match check(alloc, image, certificate, vlen) {
+    match check_kept(alloc, image, certificate, vlen) {
         Ok(accepted) => Ok(accepted),
-        Err((error, image, certificate)) => {
-            note_check(alloc, &image, &certificate, vlen, error, why);
-            Err(Stop::from(error))
-        }
+        Err(refused) => Err(not_accepted(alloc, &refused, vlen)),
     }
 }

@@ -1,90 +1,130 @@
 //! `check`: an image against its certificate, and the bound of its runs.
-ghost use Rattle.std.specs.Io.KnownBytes.{Appends};
-ghost use Rattle.std.specs.Prelude.{◌≡◌, MatchResult, OnOk};
-ghost use Rattle.commands.specs.Checks.{Checks, StopsCheck, bound_line};
-ghost use Rattle.commands.specs.Ending.{Ends};
+ghost use Rattle.std.specs.Prelude.{MatchResult};
+ghost use Rattle.rv_listing.specs.Sinks.{Told};
+ghost use Rattle.commands.specs.Checks.{Checks, StopsCheck, bound_line, double_line, single_line};
+ghost use Rattle.commands.specs.Ending.{Ends, plain};
 ghost use Rattle.commands.specs.Files.{files_of};
-ghost use Rattle.commands.specs.Written.{Gains};
+ghost use Rattle.commands.specs.Streams.{change, stream};
 
 use crate::accepted::accept;
+use crate::did::Did;
 use crate::files::read_image;
-use crate::stop::{Ending, Status, Stop, ended};
+use crate::halt::Halt;
+use crate::stop::{Status, ended};
 use crate::store::Store;
-use crate::why::Why;
 use cert_note::Budget;
+use rv_listing::{Failed, Piece, Sink, Stream, put_all};
 use std::alloc::Global;
-use std::io;
-use std::io::Write;
 
 /// `check`: checks the image at `path` against its certificate, at the certificate's length of vector registers, and prints
 /// the bound that the certificate states.
 ///
 /// In this order, up to the first that is refused or fails, which is told: the image file, the image, the certificate, the
 /// check, the printed line. Where it is to `explain`, more of why it stops is told behind the reason's line.
-pub fn check_image<S: Store, O: Write, E: Write>(
+pub fn check_image<S: Store, O: Stream, E: Sink>(
     alloc: Global,
     path: &str,
     explain: bool,
     store: &mut S,
     output: &mut O,
     errors: &mut E,
-) -> Ending
-    ensures { Ends explain
-        (Checks (files_of (S.held store.old)) path.now
-        (O.contents output.old) (O.contents output.new) (S.held store.old) (S.held store.new))
-        (StopsCheck (files_of (S.held store.old))
-        (Gains (S.held store.old) (S.held store.new)) path.now)
-        (E.contents errors.old) (E.contents errors.new) result }
+) -> Status
+    ensures { let c = (change (S.held store.old) (S.held store.new)
+        (stream (O.contents output.old) (O.failures output.old))
+        (stream (O.contents output.new) (O.failures output.new))) in
+        Ends explain (Checks (files_of c.was) path.now c) (StopsCheck (files_of c.was) c path.now)
+        (stream (E.contents errors.old) (E.failures errors.old))
+        (stream (E.contents errors.new) (E.failures errors.new)) result }
 {
-    let mut why = Why::new(alloc, explain);
-    let done = check_at(alloc, path, store, output, &mut why);
-    ended(done, &why, explain, errors)
+    let done = check_at(alloc, path, store, output);
+    ended(alloc, done, explain, errors)
 }
 
-fn check_at<'a, S: Store, O: Write>(
+fn check_at<'a, S: Store, O: Stream>(
     alloc: Global,
     path: &'a str,
     store: &mut S,
     output: &mut O,
-    why: &mut Why,
-) -> Result<Status, Stop<'a>>
-    ensures { MatchResult result
-        (Checks (files_of (S.held store.old)) path.entry.now
-        (O.contents output.old) (O.contents output.new) (S.held store.old) (S.held store.new))
-        (StopsCheck (files_of (S.held store.old))
-        (Gains (S.held store.old) (S.held store.new)) path.entry.now) }
+) -> Result<Did, Halt<'a>>
+    ensures { let c = (change (S.held store.old) (S.held store.new)
+        (stream (O.contents output.old) (O.failures output.old))
+        (stream (O.contents output.new) (O.failures output.new))) in
+        MatchResult (plain result) (Checks (files_of c.was) path.entry.now c)
+        (StopsCheck (files_of c.was) c path.entry.now) }
 {
-    let image = read_image(alloc, path, store, why)?;
-    let budget = accept(alloc, image, None, why)?.budget();
-    match print_bound(budget, output) {
-        Ok(()) => Ok(Status::Done),
-        Err(_) => Err(Stop::Output),
+    let image = read_image(alloc, path, store)?;
+    let budget = accept(alloc, image, None)?.budget();
+    match print_bound(&budget, output) {
+        Ok(()) => Ok(Did::Done),
+        Err(_) => Err(Halt::Output),
     }
 }
 
-/// Prints what an accepted image's runs take at most.
-pub fn print_bound<O: Write>(budget: Budget, output: &mut O) -> io::Result<()>
-    ensures { OnOk result
-        (Appends (O.contents output.old) (O.contents output.new) (bound_line budget)) }
+/// Tells a bound of one register.
+fn put_single<O: Sink>(budget: &Budget, output: &mut O) -> Result<(), Failed>
+    ensures { Told result (O.contents output.old) (O.contents output.new)
+        (O.failures output.old) (O.failures output.new) (single_line budget.now) }
 {
     let Budget {
         constant,
         factor,
         register,
-        second_factor,
-        second_register,
-    } = budget;
-    if second_factor == 0 {
-        writeln!(
-            output,
-            "accepted: bound {constant} + {factor} * x{register}"
-        )?;
+        ..
+    } = *budget;
+    put_all(
+        output,
+        &[
+            Piece::Text("accepted: bound "),
+            Piece::Number(constant as u64),
+            Piece::Text(" + "),
+            Piece::Number(factor as u64),
+            Piece::Text(" * x"),
+            Piece::Number(register as u64),
+            Piece::Text("\n"),
+        ],
+    )
+}
+
+/// Tells a bound of two registers.
+fn put_double<O: Sink>(budget: &Budget, output: &mut O) -> Result<(), Failed>
+    ensures { Told result (O.contents output.old) (O.contents output.new)
+        (O.failures output.old) (O.failures output.new) (double_line budget.now) }
+{
+    put_all(
+        output,
+        &[
+            Piece::Text("accepted: bound "),
+            Piece::Number(budget.constant as u64),
+            Piece::Text(" + "),
+            Piece::Number(budget.factor as u64),
+            Piece::Text(" * x"),
+            Piece::Number(budget.register as u64),
+            Piece::Text(" + "),
+            Piece::Number(budget.second_factor as u64),
+            Piece::Text(" * x"),
+            Piece::Number(budget.second_register as u64),
+            Piece::Text("\n"),
+        ],
+    )
+}
+
+/// Tells what an accepted image's runs take at most.
+fn put_bound<O: Sink>(budget: &Budget, output: &mut O) -> Result<(), Failed>
+    ensures { Told result (O.contents output.old) (O.contents output.new)
+        (O.failures output.old) (O.failures output.new) (bound_line budget.now) }
+{
+    if budget.second_factor == 0 {
+        put_single(budget, output)
     } else {
-        writeln!(
-            output,
-            "accepted: bound {constant} + {factor} * x{register} \
-             + {second_factor} * x{second_register}"
-        )?;
+        put_double(budget, output)
     }
-    output.flush()
+}
+
+/// Prints the same.
+pub fn print_bound<O: Stream>(budget: &Budget, output: &mut O) -> Result<(), Failed>
+    ensures { Told result (O.contents output.old) (O.contents output.new)
+        (O.failures output.old) (O.failures output.new) (bound_line budget.now) }
+{
+    put_bound(budget, output)?;
+    output.pass_on()
 }

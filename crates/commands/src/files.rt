@@ -1,42 +1,25 @@
 //! The files of a job: what is read before its run, and what is written after it.
-ghost use Rattle.std.specs.Prelude.{◌≡◌, MatchResult, Some, length, map, option_map, replicate};
+ghost use Rattle.std.specs.Prelude.{◌≡◌, MatchResult, Some, length, map, option_map};
 ghost use Rattle.std.specs.Prelude.{true};
 ghost use Rattle.job_file.specs.Needs.{run_param_lent};
 ghost use Rattle.toml.specs.Parse.{parse_document};
 ghost use Rattle.toml.specs.View.{table_view};
 ghost use Rattle.commands.specs.Accepted.{OrMemory};
-ghost use Rattle.commands.specs.Ending.{IsOfFile, stop_at_file};
+ghost use Rattle.commands.specs.Ending.{IsOfFile, stop_of_job};
 ghost use Rattle.commands.specs.Files.{ArePassed, AreWritten, IsImageAt, IsNoImageAt, IsNoTable};
 ghost use Rattle.commands.specs.Files.{IsNoTableAt, IsOfParam, IsOutWritten, IsPassed, IsTableAt};
 ghost use Rattle.commands.specs.Files.{IsUnpassed, IsWritten, files_of, image_in, out_file};
-ghost use Rattle.commands.specs.Why.{Notes};
+ghost use Rattle.commands.specs.Halt.{bare};
 
-use crate::stop::Stop;
-use crate::store::{Store, StoreError};
-use crate::why::{Why, note_file, note_image, note_job};
+use crate::halt::Halt;
+use crate::store::Store;
+use crate::why::{bad_image, bad_job, stop_at};
 use elf_image::{ElfError, Image, MAX_FILE_SIZE};
 use job_file::{JobError, RunParam, parse};
 use job_reasons::Command;
 use region_mem::{Arg, Args, Bytes, MAX_BUFFER_SIZE};
 use std::alloc::Global;
-use std::io::ErrorKind;
 use toml::Table;
-
-/// Why a subcommand stops at the file at `path`. What the system says of it is noted, unless memory ran out.
-pub fn stop_at<'a>(
-    error: StoreError,
-    says: Option<ErrorKind>,
-    path: &'a str,
-    why: &mut Why,
-) -> Stop<'a>
-    ensures stop { result ≡ stop_at_file error path.entry }
-    ensures notes { Notes why.old why.new }
-{
-    if let (StoreError::Failed, Some(kind)) = (error, says) {
-        note_file(kind, why);
-    }
-    Stop::at_file(error, path)
-}
 
 /// How many bytes of a buffer's file are needed: one more than a buffer may have, by which it is refused.
 const MOST_OF_BUFFER: usize = MAX_BUFFER_SIZE as usize + 1;
@@ -56,45 +39,53 @@ fn read<'a, S: Store>(
     path: &'a str,
     most: usize,
     store: &mut S,
-    why: &mut Why,
-) -> Result<Vec<u8>, Stop<'a>>
-    ensures bytes { MatchResult result
+) -> Result<Vec<u8>, Halt<'a>>
+    ensures bytes { MatchResult (bare result)
         (λ bytes. (files_of (S.held store.old)).holds path.entry.now bytes.items)
         (IsOfFile (files_of (S.held store.old)).unread path.entry.now) }
     ensures files { S.held store.new ≡ S.held store.old }
 {
     match store.read(alloc, path, most) {
         Ok(bytes) => Ok(bytes),
-        Err(error) => Err(stop_at(error, store.last_failure(), path, why)),
+        Err(error) => Err(stop_at(alloc, error, store.last_failure(), path)),
     }
 }
 
-/// The table of the job at `path`, for a command. Why that refuses it, if it does, is noted.
+/// A job file: its text, and the table that it spells.
+#[derive(Drop)]
+pub struct JobFile {
+    pub text: Vec<u8>,
+    pub table: Table,
+}
+
+/// The job file at `path`, for a command.
 pub fn read_table<'a, S: Store>(
     alloc: Global,
     path: &'a str,
     command: Command,
     store: &mut S,
-    why: &mut Why,
-) -> Result<Table, Stop<'a>>
-    ensures table { MatchResult result
-        (λ table. IsTableAt (files_of (S.held store.old)) path.entry.now (table_view table))
+) -> Result<JobFile, Halt<'a>>
+    ensures table { MatchResult (bare result)
+        (λ file. IsTableAt (files_of (S.held store.old)) path.entry.now (table_view file.table))
         (IsNoTableAt (files_of (S.held store.old)) path.entry.now) }
     ensures files { S.held store.new ≡ S.held store.old }
 {
-    let bytes = read(alloc, path, usize::MAX, store, why)?;
-    note_job(alloc, bytes.as_slice(), command, why);
-    table_in(alloc, bytes.as_slice())
+    let text = read(alloc, path, usize::MAX, store)?;
+    match table_in(alloc, text.as_slice()) {
+        Ok(table) => Ok(JobFile { text, table }),
+        Err(error) => Err(bad_job(alloc, text.as_slice(), command, error)),
+    }
 }
 
 /// The table that a text spells.
-fn table_in<'a>(alloc: Global, bytes: &[u8]) -> Result<Table, Stop<'a>>
+fn table_in(alloc: Global, bytes: &[u8]) -> Result<Table, JobError>
     ensures { MatchResult result
-        (λ table. parse_document bytes.now ≡ Some (table_view table)) (IsNoTable bytes.now) }
+        (λ table. parse_document bytes.now ≡ Some (table_view table))
+        (λ error. IsNoTable bytes.now (stop_of_job error)) }
 {
     match std::str::from_utf8(bytes) {
-        Ok(text) => Ok(parse(alloc, text)?),
-        Err(_) => Err(Stop::Job(JobError::NotToml)),
+        Ok(text) => parse(alloc, text),
+        Err(_) => Err(JobError::NotToml),
     }
 }
 
@@ -114,16 +105,15 @@ pub fn read_image_file<'a, S: Store>(
     alloc: Global,
     path: &'a str,
     store: &mut S,
-    why: &mut Why,
-) -> Result<Vec<u8>, Stop<'a>>
-    ensures bytes { MatchResult result
+) -> Result<Vec<u8>, Halt<'a>>
+    ensures bytes { MatchResult (bare result)
         (λ bytes. (files_of (S.held store.old)).holds path.entry.now bytes.items)
         (IsOfFile (files_of (S.held store.old)).unread path.entry.now) }
     ensures files { S.held store.new ≡ S.held store.old }
 {
-    let bytes = read(alloc, path, MOST_OF_IMAGE, store, why)?;
+    let bytes = read(alloc, path, MOST_OF_IMAGE, store)?;
     if lacks_rest(alloc, &bytes) {
-        return read(alloc, path, usize::MAX, store, why);
+        return read(alloc, path, usize::MAX, store);
     }
     Ok(bytes)
 }
@@ -133,27 +123,23 @@ pub fn read_image<'a, S: Store>(
     alloc: Global,
     path: &'a str,
     store: &mut S,
-    why: &mut Why,
-) -> Result<Image, Stop<'a>>
-    ensures image { MatchResult result
+) -> Result<Image, Halt<'a>>
+    ensures image { MatchResult (bare result)
         (IsImageAt (files_of (S.held store.old)) path.entry.now)
         (IsNoImageAt (files_of (S.held store.old)) path.entry.now) }
     ensures files { S.held store.new ≡ S.held store.old }
 {
-    let bytes = read_image_file(alloc, path, store, why)?;
-    image_in(alloc, bytes.as_slice(), why)
+    let bytes = read_image_file(alloc, path, store)?;
+    image_in(alloc, bytes.as_slice())
 }
 
 /// The image that a file spells.
-pub fn image_in<'a>(alloc: Global, file: &[u8], why: &mut Why) -> Result<Image, Stop<'a>>
-    ensures { OrMemory (image_in file.now) result }
+pub fn image_in<'a>(alloc: Global, file: &[u8]) -> Result<Image, Halt<'a>>
+    ensures { OrMemory (image_in file.now) (bare result) }
 {
     match elf_image::read(alloc, file) {
         Ok(image) => Ok(image),
-        Err(error) => {
-            note_image(file, error, why);
-            Err(Stop::from(error))
-        }
+        Err(error) => Err(bad_image(file, error)),
     }
 }
 
@@ -162,43 +148,26 @@ pub fn read_args<'a, S: Store>(
     alloc: Global,
     params: &[RunParam<&'a str>; 8],
     store: &mut S,
-    why: &mut Why,
-) -> Result<Args, Stop<'a>>
-    ensures passed { MatchResult result
+) -> Result<Args, Halt<'a>>
+    ensures passed { MatchResult (bare result)
         (λ args.
         ArePassed (files_of (S.held store.old)) (map run_param_lent params.now) args.places)
         (IsUnpassed (files_of (S.held store.old)) (map run_param_lent params.now)) }
     ensures files { S.held store.new ≡ S.held store.old }
 {
-    let mut places = no_args();
+    let Args { mut places }: Args = Args::none();
     for place in 0..8 {
-        places[place] = read_arg(alloc, &params[place], store, why)?;
+        places[place] = read_arg(alloc, &params[place], store)?;
     }
     Ok(Args { places })
-}
-
-fn no_args() -> [Arg; 8]
-    ensures { result ≡ replicate 8 Arg.None }
-{
-    [
-        Arg::None,
-        Arg::None,
-        Arg::None,
-        Arg::None,
-        Arg::None,
-        Arg::None,
-        Arg::None,
-        Arg::None,
-    ]
 }
 
 fn read_arg<'a, S: Store>(
     alloc: Global,
     param: &RunParam<&'a str>,
     store: &mut S,
-    why: &mut Why,
-) -> Result<Arg, Stop<'a>>
-    ensures passed { MatchResult result
+) -> Result<Arg, Halt<'a>>
+    ensures passed { MatchResult (bare result)
         (IsPassed (files_of (S.held store.old)) (run_param_lent param.now))
         (IsOfParam (files_of (S.held store.old)) (run_param_lent param.now)) }
     ensures files { S.held store.new ≡ S.held store.old }
@@ -207,7 +176,7 @@ fn read_arg<'a, S: Store>(
         RunParam::None => Ok(Arg::None),
         RunParam::Scalar(value) => Ok(Arg::Scalar(*value)),
         RunParam::Buffer { file, .. } => {
-            let bytes = read(alloc, *file, MOST_OF_BUFFER, store, why)?;
+            let bytes = read(alloc, *file, MOST_OF_BUFFER, store)?;
             Ok(Arg::Buffer(Bytes::new(bytes)))
         }
     }
@@ -232,48 +201,48 @@ fn out_file<'a, 'b>(param: &RunParam<&'a str>, arg: &'b Arg) -> Option<(&'a str,
 
 /// Writes the file at `path`.
 pub fn write<'a, S: Store>(
+    alloc: Global,
     path: &'a str,
     bytes: &[u8],
     store: &mut S,
-    why: &mut Why,
-) -> Result<(), Stop<'a>>
+) -> Result<(), Halt<'a>>
     ensures { IsWritten (files_of (S.held store.old)) (S.held store.old) (S.held store.new)
-        (path.entry.now, bytes.now) result }
+        (path.entry.now, bytes.now) (bare result) }
 {
     match store.write(path, bytes) {
         Ok(()) => Ok(()),
-        Err(error) => Err(stop_at(error, store.last_failure(), path, why)),
+        Err(error) => Err(stop_at(alloc, error, store.last_failure(), path)),
     }
 }
 
 /// Writes the out file of a place, where it has one.
 fn write_out<'a, S: Store>(
+    alloc: Global,
     param: &RunParam<&'a str>,
     arg: &Arg,
     store: &mut S,
-    why: &mut Why,
-) -> Result<(), Stop<'a>>
+) -> Result<(), Halt<'a>>
     ensures { IsOutWritten (files_of (S.held store.old)) (S.held store.old) (S.held store.new)
-        (out_file (run_param_lent param.now, arg.now)) result }
+        (out_file (run_param_lent param.now, arg.now)) (bare result) }
 {
     match out_file(param, arg) {
-        Some((path, bytes)) => write(path, bytes, store, why),
+        Some((path, bytes)) => write(alloc, path, bytes, store),
         None => Ok(()),
     }
 }
 
 /// Writes the out files of a job, by place, up to the first that can't be written.
 pub fn write_outs<'a, S: Store>(
+    alloc: Global,
     params: &[RunParam<&'a str>; 8],
     args: &[Arg; 8],
     store: &mut S,
-    why: &mut Why,
-) -> Result<(), Stop<'a>>
+) -> Result<(), Halt<'a>>
     ensures { AreWritten (files_of (S.held store.old)) (S.held store.old) (S.held store.new)
-        (map run_param_lent params.now) args.now result }
+        (map run_param_lent params.now) args.now (bare result) }
 {
     for place in 0..8 {
-        write_out(&params[place], &args[place], store, why)?;
+        write_out(alloc, &params[place], &args[place], store)?;
     }
     Ok(())
 }

@@ -2,21 +2,24 @@
 //!
 //! Each has a module: `checks`, `makes`, `mons`, `runs` and `tries`. What they share stands in the
 //! others: `starts` (what those on a job begin with), `files` (what is read, and the out files),
-//! `accepted` (an image with its certificate), `lines` (the input of `mon`), `trial` (what comes of a
-//! run), `registers` (those that it left), `stop` (statuses and reasons to stop), `texts` (how those are told), `more` (what more is
-//! told of them), `why` (what of that is noted), `store` (where files are) and `memory` (files in memory).
+//! `accepted` (an image with its certificate), `sources` and `lines` (the input of `mon`), `trial` (what comes of a
+//! run), `registers` (those that it left), `did` (what was done), `stop` (statuses and reasons to stop), `texts` and `escapes` (how those are
+//! told), `halt` (what more is told of them), `why` (of what they are), `store` (where files are) and `memory` (files in memory).
 #![tactic(auto)]
 
 mod accepted;
 mod checks;
+mod did;
+mod escapes;
 mod files;
+mod halt;
 mod lines;
 mod makes;
 mod memory;
 mod mons;
-mod more;
 mod registers;
 mod runs;
+mod sources;
 mod starts;
 mod stop;
 mod store;
@@ -29,9 +32,11 @@ pub use checks::check_image;
 pub use files::needs_in_numbers;
 pub use job_reasons::Escaped;
 pub use makes::{MakePaths, make_image};
-pub use memory::{Memory, check_memory, make_memory, run_memory, try_memory};
+pub use memory::{Memory, check_memory, make_memory, mon_memory, run_memory, try_memory};
 pub use mons::{mon_job, mon_job_within};
 pub use runs::run_job;
-pub use stop::{Ending, Status, Stop};
+pub use rv_listing::{Failed, Over, Sink, Stream};
+pub use sources::{Counted, Source};
+pub use stop::{Status, Stop};
 pub use store::{Disk, MOST_READS, Store, StoreError, read_some, reads_in_numbers};
 pub use tries::try_job;

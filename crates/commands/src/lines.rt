@@ -1,28 +1,28 @@
 //! Lines of the input, each answered before the next.
 ghost use Rattle.std.specs.Prelude.{◌≡◌, ◌++◌, ◌∷◌, [], ℕ, List, IfErr, IfOk, OnOk};
-ghost use Rattle.std.specs.Io.KnownBytes.{Appends};
 ghost use Rattle.monitor.specs.Commands.{order_of};
-ghost use Rattle.commands.specs.Mons.{IsUnanswered};
+ghost use Rattle.commands.specs.Halt.{stop_of};
+ghost use Rattle.commands.specs.Mons.{HasPrinted, IsBroken, IsOfInput, IsUnanswered};
+ghost use Rattle.commands.specs.Streams.{Prints, exchange, source, stream};
 ghost use Rattle.commands.specs.Talks.{GoesOver, IsAnswered, IsDone, IsLine, Talks, answer_of};
 ghost use Rattle.commands.specs.Talks.{error_line, flow_after, watch};
-ghost use Rattle.commands.specs.Why.{Notes};
 ghost use Rattle.commands.specs.declared.stop.Stop.TheVariants.{Memory};
 
-use crate::files::stop_at;
-use crate::stop::Stop;
+use crate::halt::Halt;
+use crate::sources::Source;
 use crate::store::StoreError;
 use crate::texts::monitor_error_name;
-use crate::why::Why;
-use monitor::{Flow, MonError, Monitor, Over};
-use rv_listing::{Piece, put_all};
+use crate::why::stop_at;
+use monitor::{Flow, MonError, Monitor};
+use rv_listing::{Over, Piece, Stream, print, put_all};
 use std::alloc::Global;
 use std::io;
-use std::io::{ErrorKind, Read, Write};
+use std::io::ErrorKind;
 
 /// The line that tells the error of a command.
-fn error_line<'a>(alloc: Global, error: MonError) -> Result<Vec<u8>, Stop<'a>>
+fn error_line<'a>(alloc: Global, error: MonError) -> Result<Vec<u8>, Halt<'a>>
     ensures text { IfOk result (λ text. text.items ≡ error_line error) }
-    ensures memory { IfErr result (λ reason. reason ≡ Memory) }
+    ensures memory { IfErr result (λ halt. stop_of halt ≡ Memory) }
 {
     let mut text = Over::new(Vec::new(alloc));
     let name = Piece::Text(monitor_error_name(error));
@@ -31,7 +31,7 @@ fn error_line<'a>(alloc: Global, error: MonError) -> Result<Vec<u8>, Stop<'a>>
         &[Piece::Text("error: "), name, Piece::Text("\n")],
     ) {
         Ok(()) => Ok(text.into_inner()),
-        Err(_) => Err(Stop::Memory),
+        Err(_) => Err(Halt::Memory),
     }
 }
 
@@ -40,7 +40,7 @@ fn carried<'a, const VLENB: usize>(
     alloc: Global,
     monitor: &mut Monitor<'_, VLENB>,
     line: &str,
-) -> Result<(Flow, Vec<u8>), Stop<'a>>
+) -> Result<(Flow, Vec<u8>), Halt<'a>>
     ensures same_reference { monitor.new.session.ghost_name ≡ monitor.old.session.ghost_name }
     ensures first { monitor.new.session.now.first ≡ monitor.old.session.now.first }
     ensures told { IfOk result (λ r.
@@ -50,22 +50,14 @@ fn carried<'a, const VLENB: usize>(
         IsDone VLENB (order_of line.now monitor.old.breakpoints.items monitor.old.session.now)
         (watch monitor.old.breakpoints.items monitor.old.session.now)
         (watch monitor.new.breakpoints.items monitor.new.session.now)) }
-    ensures memory { IfErr result (λ reason. reason ≡ Memory) }
+    ensures memory { IfErr result (λ halt. stop_of halt ≡ Memory) }
 {
     let mut text = Over::new(Vec::new(alloc));
     match monitor.command(line, &mut text) {
         Ok(flow) => Ok((flow, text.into_inner())),
-        Err(MonError::Write) => Err(Stop::Memory),
+        Err(MonError::Write) => Err(Halt::Memory),
         Err(error) => Ok((Flow::Go, error_line(alloc, error)?)),
     }
-}
-
-/// Prints a text, and passes it on.
-fn print<O: Write>(output: &mut O, text: &[u8]) -> io::Result<()>
-    ensures { OnOk result (Appends (O.contents output.old) (O.contents output.new) text.now) }
-{
-    output.write_all(text)?;
-    output.flush()
 }
 
 /// What a line comes to, which is no command where it is not UTF-8: whether lines go on, and what is told of it.
@@ -73,14 +65,14 @@ fn answered<'a, const VLENB: usize>(
     alloc: Global,
     monitor: &mut Monitor<'_, VLENB>,
     line: &[u8],
-) -> Result<(Flow, Vec<u8>), Stop<'a>>
+) -> Result<(Flow, Vec<u8>), Halt<'a>>
     ensures same_reference { monitor.new.session.ghost_name ≡ monitor.old.session.ghost_name }
     ensures first { monitor.new.session.now.first ≡ monitor.old.session.now.first }
     ensures answered { IfOk result (λ r. IsAnswered VLENB line.now
         (watch monitor.old.breakpoints.items monitor.old.session.now)
         (watch monitor.new.breakpoints.items monitor.new.session.now)
         r.1.items r.0) }
-    ensures memory { IfErr result (λ reason. reason ≡ Memory) }
+    ensures memory { IfErr result (λ halt. stop_of halt ≡ Memory) }
 {
     match std::str::from_utf8(line) {
         Ok(line) => carried(alloc, monitor, line),
@@ -89,49 +81,58 @@ fn answered<'a, const VLENB: usize>(
 }
 
 /// Answers a line, and tells whether lines go on.
-fn answer<'a, const VLENB: usize, O: Write>(
+fn answer<'a, const VLENB: usize, O: Stream>(
     alloc: Global,
     monitor: &mut Monitor<'_, VLENB>,
     line: &[u8],
     output: &mut O,
-) -> Result<Flow, Stop<'a>>
+) -> Result<Flow, Halt<'a>>
     ensures same_reference { monitor.new.session.ghost_name ≡ monitor.old.session.ghost_name }
     ensures first { monitor.new.session.now.first ≡ monitor.old.session.now.first }
     ensures answered { IfOk result (λ f. (text : List ℕ)
-        × Appends (O.contents output.old) (O.contents output.new) text
+        × Prints (stream (O.contents output.old) (O.failures output.old))
+        (stream (O.contents output.new) (O.failures output.new)) text
         × IsAnswered VLENB line.now
         (watch monitor.old.breakpoints.items monitor.old.session.now)
         (watch monitor.new.breakpoints.items monitor.new.session.now) text f) }
-    ensures unanswered { IfErr result IsUnanswered }
+    ensures unanswered { IfErr result (λ halt. IsBroken
+        (stream (O.contents output.old) (O.failures output.old))
+        (stream (O.contents output.new) (O.failures output.new)) (stop_of halt)) }
 {
     let (flow, text) = answered(alloc, monitor, line)?;
     match print(output, text.as_slice()) {
         Ok(()) => Ok(flow),
-        Err(_) => Err(Stop::Output),
+        Err(_) => Err(Halt::Output),
     }
 }
 
 /// Takes one more byte of a line, or its end, at which the line is answered.
-fn answer_byte<'a, const VLENB: usize, O: Write>(
+fn answer_byte<'a, const VLENB: usize, O: Stream>(
     alloc: Global,
     monitor: &mut Monitor<'_, VLENB>,
     line: &mut Vec<u8>,
     byte: u8,
     output: &mut O,
-) -> Result<Flow, Stop<'a>>
+) -> Result<Flow, Halt<'a>>
     ensures same_reference { monitor.new.session.ghost_name ≡ monitor.old.session.ghost_name }
     ensures first { monitor.new.session.now.first ≡ monitor.old.session.now.first }
     ensures answered { IfOk result (λ f. IsLine line.old.items → GoesOver VLENB
         (line.old.items ++ (byte ∷ [])) line.new.items
-        (O.contents output.old) (O.contents output.new)
+        (stream (O.contents output.old) (O.failures output.old))
+        (stream (O.contents output.new) (O.failures output.new))
         (watch monitor.old.breakpoints.items monitor.old.session.now)
         (watch monitor.new.breakpoints.items monitor.new.session.now) f) }
-    ensures unanswered { IfErr result IsUnanswered }
+    ensures printed { OnOk result (HasPrinted
+        (stream (O.contents output.old) (O.failures output.old))
+        (stream (O.contents output.new) (O.failures output.new))) }
+    ensures unanswered { IfErr result (λ halt. IsBroken
+        (stream (O.contents output.old) (O.failures output.old))
+        (stream (O.contents output.new) (O.failures output.new)) (stop_of halt)) }
 {
     if byte != b'\n' {
         return match line.push(byte) {
             Ok(()) => Ok(Flow::Go),
-            Err(_) => Err(Stop::Memory),
+            Err(_) => Err(Halt::Memory),
         };
     }
     let flow = answer(alloc, monitor, line.as_slice(), output)?;
@@ -140,21 +141,27 @@ fn answer_byte<'a, const VLENB: usize, O: Write>(
 }
 
 /// Answers each line that ends in these bytes, of which `line` holds the beginning of the first, and then that of the next.
-fn answer_bytes<'a, const VLENB: usize, O: Write>(
+fn answer_bytes<'a, const VLENB: usize, O: Stream>(
     alloc: Global,
     monitor: &mut Monitor<'_, VLENB>,
     line: &mut Vec<u8>,
     bytes: &[u8],
     output: &mut O,
-) -> Result<Flow, Stop<'a>>
+) -> Result<Flow, Halt<'a>>
     ensures same_reference { monitor.new.session.ghost_name ≡ monitor.old.session.ghost_name }
     ensures first { monitor.new.session.now.first ≡ monitor.old.session.now.first }
     ensures answered { IfOk result (λ f. IsLine line.old.items → GoesOver VLENB
         (line.old.items ++ bytes.now) line.new.items
-        (O.contents output.old) (O.contents output.new)
+        (stream (O.contents output.old) (O.failures output.old))
+        (stream (O.contents output.new) (O.failures output.new))
         (watch monitor.old.breakpoints.items monitor.old.session.now)
         (watch monitor.new.breakpoints.items monitor.new.session.now) f) }
-    ensures unanswered { IfErr result IsUnanswered }
+    ensures printed { OnOk result (HasPrinted
+        (stream (O.contents output.old) (O.failures output.old))
+        (stream (O.contents output.new) (O.failures output.new))) }
+    ensures unanswered { IfErr result (λ halt. IsBroken
+        (stream (O.contents output.old) (O.failures output.old))
+        (stream (O.contents output.new) (O.failures output.new)) (stop_of halt)) }
 {
     for byte in bytes {
         match answer_byte(alloc, monitor, line, *byte, output)? {
@@ -165,33 +172,38 @@ fn answer_bytes<'a, const VLENB: usize, O: Write>(
     Ok(Flow::Go)
 }
 
-/// Why no line is read where the input fails, of which the system's reason is noted unless memory ran out.
-fn unread<'a>(error: io::Error, why: &mut Why) -> Stop<'a>
-    ensures unanswered { IsUnanswered result }
-    ensures notes { Notes why.old why.new }
+/// Why no line is read where the input fails, with what the system says of it, unless memory ran out.
+fn unread<'a>(alloc: Global, error: io::Error) -> Halt<'a>
+    ensures { IsOfInput (stop_of result) }
 {
     let kind = error.kind();
-    stop_at(StoreError::from(error), Some(kind), "-", why)
+    stop_at(alloc, StoreError::from(error), Some(kind), "-")
 }
 
 /// Answers the lines of the input, up to the command `q` or the end, in at most `reads` reads. The last line needs no end.
-/// Where the input fails, what the system says of it is noted.
-pub fn answer_lines<'a, const VLENB: usize, I: Read, O: Write>(
+/// Where the input fails, what the system says of it is told. Of too many reads it says nothing.
+pub fn answer_lines<'a, const VLENB: usize, I: Source, O: Stream>(
     alloc: Global,
     monitor: &mut Monitor<'_, VLENB>,
     input: &mut I,
     output: &mut O,
     reads: u64,
-    why: &mut Why,
-) -> Result<(), Stop<'a>>
+) -> Result<(), Halt<'a>>
     ensures same_reference { monitor.new.session.ghost_name ≡ monitor.old.session.ghost_name }
     ensures first { monitor.new.session.now.first ≡ monitor.old.session.now.first }
     ensures answered { OnOk result (Talks VLENB
         (I.remaining input.old) (I.remaining input.new)
-        (O.contents output.old) (O.contents output.new)
+        (stream (O.contents output.old) (O.failures output.old))
+        (stream (O.contents output.new) (O.failures output.new))
         (watch monitor.old.breakpoints.items monitor.old.session.now)
         (watch monitor.new.breakpoints.items monitor.new.session.now)) }
-    ensures unanswered { IfErr result IsUnanswered }
+    ensures unanswered { IfErr result (λ halt. IsUnanswered reads
+        (exchange
+        (source (I.remaining input.old) (I.reads input.old) (I.failures input.old))
+        (source (I.remaining input.new) (I.reads input.new) (I.failures input.new))
+        (stream (O.contents output.old) (O.failures output.old))
+        (stream (O.contents output.new) (O.failures output.new)))
+        (stop_of halt)) }
 {
     let mut line = Vec::new(alloc);
     let mut chunk = [0u8; 4096];
@@ -207,8 +219,8 @@ pub fn answer_lines<'a, const VLENB: usize, I: Read, O: Write>(
                 Flow::Quit => return Ok(()),
             },
             Err(error) if error.kind() == ErrorKind::Interrupted => {}
-            Err(error) => return Err(unread(error, why)),
+            Err(error) => return Err(unread(alloc, error)),
         }
     }
-    Err(unread(io::Error::from(ErrorKind::FileTooLarge), why))
+    Err(Halt::File("-", None))
 }

@@ -2,32 +2,34 @@
 ghost use Rattle.std.specs.Prelude.{◌≡◌, Err, IfErr, IfOk, MatchResult};
 ghost use Rattle.block_checker.specs.Accepted.{Passes};
 ghost use Rattle.commands.specs.Accepted.{IsOrWant};
-ghost use Rattle.commands.specs.Ending.{Ends};
+ghost use Rattle.commands.specs.Ending.{Ends, plain};
 ghost use Rattle.commands.specs.Files.{OfTable, StopsOfTable, files_of, image_in};
+ghost use Rattle.commands.specs.Halt.{bare};
 ghost use Rattle.commands.specs.Makes.{AnswersBytes, Makes, StopsMake, accepted_in, bytes_of};
 ghost use Rattle.commands.specs.Makes.{certificate_for, made_of, with_certificate};
 ghost use Rattle.commands.specs.Trial.{OrMemory};
-ghost use Rattle.commands.specs.Written.{Gains};
+ghost use Rattle.commands.specs.Streams.{Wrote, change, stream};
 ghost use Rattle.toml.specs.View.{table_view};
 
 use crate::accepted::accept;
 use crate::checks::print_bound;
+use crate::did::Did;
 use crate::files::{image_in, read_image_file, write};
-use crate::more::More;
-use crate::starts::on_table;
-use crate::stop::{Ending, Status, Stop};
+use crate::halt::Halt;
+use crate::starts::{on_table, taken};
+use crate::stop::Status;
 use crate::store::Store;
-use crate::why::{Why, note_attach, note_misfit};
+use crate::why::{not_attached, not_made};
 use block_checker::Accepted;
 use cert_maker::make;
 use cert_note::Certificate;
 use elf_image::{Image, attach};
 use explanations::parameter_reason;
-use job_file::{JobError, MakeJob, make_job_in};
+use job_file::{MakeJob, make_job_in};
 use job_reasons::Command;
 use region_mem::Parameters;
+use rv_listing::{Sink, Stream};
 use std::alloc::Global;
-use std::io::Write;
 use toml::Table;
 
 /// The paths that `make` is given.
@@ -50,76 +52,67 @@ pub struct MakePaths<'a> {
 /// back, its certificate, the check, the file that is written, the printed line.
 ///
 /// Where it is to `explain`, more of why it stops is told behind the reason's line.
-pub fn make_image<'a, S: Store, O: Write, E: Write>(
+pub fn make_image<'a, S: Store, O: Stream, E: Sink>(
     alloc: Global,
     paths: MakePaths<'a>,
     explain: bool,
     store: &mut S,
     output: &mut O,
     errors: &mut E,
-) -> Ending
-    ensures { Ends explain
-        (OfTable (files_of (S.held store.old)) paths.entry.job.now (λ table.
-        Makes (files_of (S.held store.old)) paths.entry.image.now paths.entry.out.now table
-        (O.contents output.old) (O.contents output.new)
-        (S.held store.old) (S.held store.new)))
-        (StopsOfTable (files_of (S.held store.old)) (Gains (S.held store.old) (S.held store.new))
-        paths.entry.job.now (StopsMake (files_of (S.held store.old))
-        (Gains (S.held store.old) (S.held store.new))
-        paths.entry.image.now paths.entry.out.now))
-        (E.contents errors.old) (E.contents errors.new) result }
+) -> Status
+    ensures { let c = (change (S.held store.old) (S.held store.new)
+        (stream (O.contents output.old) (O.failures output.old))
+        (stream (O.contents output.new) (O.failures output.new))) in
+        Ends explain
+        (OfTable (files_of c.was) paths.entry.job.now (λ table.
+        Makes (files_of c.was) paths.entry.image.now paths.entry.out.now table c))
+        (StopsOfTable (files_of c.was) (Wrote c) paths.entry.job.now
+        (StopsMake (files_of c.was) c paths.entry.image.now paths.entry.out.now))
+        (stream (E.contents errors.old) (E.failures errors.old))
+        (stream (E.contents errors.new) (E.failures errors.new)) result }
 {
-    on_table!(alloc, paths.job, Command::Make, explain, store, errors; table, why =>
-        make_table(alloc, table, paths, store, output, why))
+    on_table!(alloc, paths.job, Command::Make, explain, store, errors; table, text =>
+        make_table(alloc, table, text, paths, store, output))
 }
 
 /// `make` on a job's table.
-fn make_table<'a, S: Store, O: Write>(
+fn make_table<'a, S: Store, O: Stream>(
     alloc: Global,
     table: &Table,
+    text: &[u8],
     paths: MakePaths<'a>,
     store: &mut S,
     output: &mut O,
-    why: &mut Why,
-) -> Result<Status, Stop<'a>>
-    ensures { MatchResult result
-        (Makes (files_of (S.held store.old)) paths.entry.image.now paths.entry.out.now
-        (table_view table.now) (O.contents output.old) (O.contents output.new)
-        (S.held store.old) (S.held store.new))
-        (StopsMake (files_of (S.held store.old)) (Gains (S.held store.old) (S.held store.new))
-        paths.entry.image.now paths.entry.out.now (table_view table.now)) }
+) -> Result<Did, Halt<'a>>
+    ensures { let c = (change (S.held store.old) (S.held store.new)
+        (stream (O.contents output.old) (O.failures output.old))
+        (stream (O.contents output.new) (O.failures output.new))) in
+        MatchResult (plain result)
+        (Makes (files_of c.was) paths.entry.image.now paths.entry.out.now (table_view table.now) c)
+        (StopsMake (files_of c.was) c paths.entry.image.now paths.entry.out.now
+        (table_view table.now)) }
 {
-    let job = make_job_in(table).ok_or(JobError::BadKey)?;
-    why.forget();
-    let file = read_image_file(alloc, paths.image, store, why)?;
-    let bytes = made(alloc, &job, file.as_slice(), why)?;
-    let budget = read_back(alloc, &job, bytes.as_slice(), why)?.budget();
-    write(paths.out, bytes.as_slice(), store, why)?;
-    match print_bound(budget, output) {
-        Ok(()) => Ok(Status::Done),
-        Err(_) => Err(Stop::Output),
+    let job = taken(alloc, make_job_in(table), text, Command::Make)?;
+    let file = read_image_file(alloc, paths.image, store)?;
+    let bytes = made(alloc, &job, file.as_slice())?;
+    let budget = read_back(alloc, &job, bytes.as_slice())?.budget();
+    write(alloc, paths.out, bytes.as_slice(), store)?;
+    match print_bound(&budget, output) {
+        Ok(()) => Ok(Did::Done),
+        Err(_) => Err(Halt::Output),
     }
 }
 
 /// The certificate that is made for a job of the loop at an image's entry.
-fn certificate_for<'a>(
-    alloc: Global,
-    job: &MakeJob,
-    image: &Image,
-    why: &mut Why,
-) -> Result<Certificate, Stop<'a>>
-    ensures { OrMemory (certificate_for job.now image.now) result }
+fn certificate_for<'a>(alloc: Global, job: &MakeJob, image: &Image) -> Result<Certificate, Halt<'a>>
+    ensures { OrMemory (certificate_for job.now image.now) (bare result) }
 {
     let Some(parameters) = Parameters::new(job.params) else {
-        why.note(More::Parameters(parameter_reason(&job.params)));
-        return Err(Stop::Job(JobError::BadKey));
+        return Err(Halt::Parameters(parameter_reason(&job.params)));
     };
     match make(alloc, image, &parameters, job.vlen) {
         Ok(certificate) => Ok(certificate),
-        Err(error) => {
-            note_misfit(alloc, image, error, why);
-            Err(Stop::from(error))
-        }
+        Err(error) => Err(not_made(alloc, image, error)),
     }
 }
 
@@ -129,41 +122,32 @@ fn with_certificate<'a>(
     file: &[u8],
     image: &Image,
     certificate: &Certificate,
-    why: &mut Why,
-) -> Result<Vec<u8>, Stop<'a>>
+) -> Result<Vec<u8>, Halt<'a>>
     ensures { AnswersBytes (with_certificate file.now certificate.now) result }
 {
     let note = cert_note::write(alloc, certificate)?;
     match attach(alloc, file, note.as_slice()) {
         Ok(bytes) => Ok(bytes),
-        Err(error) => {
-            note_attach(file, image, note.len(), error, why);
-            Err(Stop::from(error))
-        }
+        Err(error) => Err(not_attached(file, image, note.len(), error)),
     }
 }
 
 /// A file with the certificate that is made of it for a job.
-fn made<'a>(alloc: Global, job: &MakeJob, file: &[u8], why: &mut Why) -> Result<Vec<u8>, Stop<'a>>
+fn made<'a>(alloc: Global, job: &MakeJob, file: &[u8]) -> Result<Vec<u8>, Halt<'a>>
     ensures image { IfErr (image_in file.now) (λ reason. bytes_of result ≡ Err reason) }
     ensures answer { AnswersBytes (made_of job.now file.now) result }
 {
-    let image = image_in(alloc, file, why)?;
-    let certificate = certificate_for(alloc, job, &image, why)?;
-    with_certificate(alloc, file, &image, &certificate, why)
+    let image = image_in(alloc, file)?;
+    let certificate = certificate_for(alloc, job, &image)?;
+    with_certificate(alloc, file, &image, &certificate)
 }
 
 /// What is accepted where a file that was made is read back.
-fn read_back<'a>(
-    alloc: Global,
-    job: &MakeJob,
-    bytes: &[u8],
-    why: &mut Why,
-) -> Result<Accepted, Stop<'a>>
-    ensures image { IfErr (image_in bytes.now) (λ reason. result ≡ Err reason) }
-    ensures answer { IsOrWant (accepted_in job.now bytes.now) result }
+fn read_back<'a>(alloc: Global, job: &MakeJob, bytes: &[u8]) -> Result<Accepted, Halt<'a>>
+    ensures image { IfErr (image_in bytes.now) (λ reason. bare result ≡ Err reason) }
+    ensures answer { IsOrWant (accepted_in job.now bytes.now) (bare result) }
     ensures passes { IfOk result Passes }
 {
-    let image = image_in(alloc, bytes, why)?;
-    accept(alloc, image, Some(job.vlen), why)
+    let image = image_in(alloc, bytes)?;
+    accept(alloc, image, Some(job.vlen))
 }

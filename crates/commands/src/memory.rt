@@ -2,16 +2,21 @@
 ghost use Rattle.std.specs.Prelude.{◌≡◌, ◌⊎◌, ◌++◌, [], List, MatchResult, None, Some, IfOk, map};
 ghost use Rattle.std.specs.Prelude.{option_map, ℕ};
 ghost use Rattle.commands.specs.Corollary.{IsBoundOf, IsMadeOf, IsRunOf, IsTrialOf};
+ghost use Rattle.commands.specs.Corollary.{IsWatchOf};
 ghost use Rattle.commands.specs.Files.{bytes_at, is_among, last_at};
 ghost use Rattle.commands.specs.Memory.{entry_of, held_by, path_of, with_unread, with_unwritten};
+ghost use Rattle.commands.specs.Streams.{exchange, source, stream};
 ghost use Rattle.commands.specs.declared.stop.Status.TheVariants as status;
 
 use crate::checks::check_image;
 use crate::makes::{MakePaths, make_image};
+use crate::mons::mon_job;
 use crate::runs::run_job;
-use crate::stop::Ending;
+use crate::sources::Source;
+use crate::stop::Status;
 use crate::store::{Store, StoreError};
 use crate::tries::try_job;
+use rv_listing::Over;
 use std::alloc::{AllocError, Global};
 use std::io::ErrorKind;
 
@@ -168,12 +173,12 @@ pub fn check_memory(
     alloc: Global,
     path: &str,
     memory: &mut Memory,
-    output: &mut Vec<u8>,
-    errors: &mut Vec<u8>,
-) -> Ending
-    ensures done { result.status ≡ status.Done → (file : List ℕ)
+    output: &mut Over<Vec<u8>>,
+    errors: &mut Over<Vec<u8>>,
+) -> Status
+    ensures done { result ≡ status.Done → (file : List ℕ)
         × (bytes_at (held_by memory.old) path.now ≡ Some file)
-        × (line : List ℕ) × IsBoundOf file line × (output.new.items ≡ output.old.items ++ line) }
+        × (line : List ℕ) × IsBoundOf file line × (output.new.writer.items ≡ output.old.writer.items ++ line) }
     ensures kept { held_by memory.new ≡ held_by memory.old }
 {
     check_image(alloc, path, false, memory, output, errors)
@@ -185,11 +190,11 @@ pub fn run_memory(
     path: &str,
     registers: bool,
     memory: &mut Memory,
-    output: &mut Vec<u8>,
-    errors: &mut Vec<u8>,
-) -> Ending
-    ensures { result.status ≡ status.Done → IsRunOf registers (held_by memory.old)
-        (held_by memory.new) path.now output.old.items output.new.items }
+    output: &mut Over<Vec<u8>>,
+    errors: &mut Over<Vec<u8>>,
+) -> Status
+    ensures { result ≡ status.Done → IsRunOf registers (held_by memory.old)
+        (held_by memory.new) path.now output.old.writer.items output.new.writer.items }
 {
     run_job(alloc, path, false, registers, memory, output, errors)
 }
@@ -200,12 +205,12 @@ pub fn try_memory(
     path: &str,
     registers: bool,
     memory: &mut Memory,
-    output: &mut Vec<u8>,
-    errors: &mut Vec<u8>,
-) -> Ending
-    ensures { (result.status ≡ status.Done) ⊎ (result.status ≡ status.Stopped)
+    output: &mut Over<Vec<u8>>,
+    errors: &mut Over<Vec<u8>>,
+) -> Status
+    ensures { (result ≡ status.Done) ⊎ (result ≡ status.Stopped)
         → IsTrialOf registers (held_by memory.old) (held_by memory.new) path.now
-        output.old.items output.new.items result.status }
+        output.old.writer.items output.new.writer.items result }
 {
     try_job(alloc, path, false, registers, memory, output, errors)
 }
@@ -215,12 +220,32 @@ pub fn make_memory<'a>(
     alloc: Global,
     paths: MakePaths<'a>,
     memory: &mut Memory,
-    output: &mut Vec<u8>,
-    errors: &mut Vec<u8>,
-) -> Ending
-    ensures { result.status ≡ status.Done → IsMadeOf (held_by memory.old) (held_by memory.new)
+    output: &mut Over<Vec<u8>>,
+    errors: &mut Over<Vec<u8>>,
+) -> Status
+    ensures { result ≡ status.Done → IsMadeOf (held_by memory.old) (held_by memory.new)
         paths.entry.image.now paths.entry.job.now paths.entry.out.now
-        output.old.items output.new.items }
+        output.old.writer.items output.new.writer.items }
 {
     make_image(alloc, paths, false, memory, output, errors)
+}
+
+/// `mon` over files in memory: what it answers to the lines of the input, and which files there are afterwards.
+pub fn mon_memory<I: Source>(
+    alloc: Global,
+    path: &str,
+    memory: &mut Memory,
+    input: &mut I,
+    output: &mut Over<Vec<u8>>,
+    errors: &mut Over<Vec<u8>>,
+) -> Status
+    ensures { let e = (exchange
+        (source (I.remaining input.old) (I.reads input.old) (I.failures input.old))
+        (source (I.remaining input.new) (I.reads input.new) (I.failures input.new))
+        (stream (Some output.old.writer.items) output.old.failures)
+        (stream (Some output.new.writer.items) output.new.failures)) in
+        result ≡ status.Done
+        → IsWatchOf (held_by memory.old) (held_by memory.new) path.now e }
+{
+    mon_job(alloc, path, false, memory, input, output, errors)
 }

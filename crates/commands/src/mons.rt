@@ -2,24 +2,30 @@
 ghost use Rattle.std.specs.Prelude.{◌≡◌, IfErr, MatchResult, OnOk};
 ghost use Rattle.toml.specs.View.{table_view};
 ghost use Rattle.vreg_groups.specs.VectorLength.{IsVlenb, vlenb_of};
-ghost use Rattle.commands.specs.Ending.{Ends};
+ghost use Rattle.commands.specs.Ending.{Ends, plain};
 ghost use Rattle.commands.specs.Files.{OfTable, StopsOfTable, files_of};
-ghost use Rattle.commands.specs.Mons.{IsStopped, IsUnanswered, Mons, StopsMon, StopsWatching};
-ghost use Rattle.commands.specs.Talks.{AreTold, exchange};
+ghost use Rattle.commands.specs.Halt.{bare, stop_of};
+ghost use Rattle.commands.specs.Mons.{BeforeAll, IsStopped, IsUnanswered, Mons, StopsMon};
+ghost use Rattle.commands.specs.Mons.{StopsWatching};
+ghost use Rattle.commands.specs.Streams.{exchange, source, stream};
+ghost use Rattle.commands.specs.Talks.{AreTold};
 ghost use Rattle.commands.specs.Written.{Gains};
 
+use crate::did::Did;
 use crate::files::write_outs;
+use crate::halt::Halt;
 use crate::lines::answer_lines;
+use crate::sources::Source;
 use crate::starts::{Ready, Start, on_table, started};
-use crate::stop::{Ending, Status, Stop};
+use crate::stop::Status;
 use crate::store::{MOST_READS, Store};
-use crate::why::{Why, note_open};
+use crate::why::not_opened;
 use job_reasons::Command;
 use monitor::Monitor;
 use region_mem::Args;
+use rv_listing::{Sink, Stream};
 use sandbox_run::Session;
 use std::alloc::Global;
-use std::io::{Read, Write};
 use toml::Table;
 use vreg_groups::Vlen;
 
@@ -32,7 +38,7 @@ use vreg_groups::Vlen;
 /// the out files by place.
 ///
 /// Where it is to `explain`, more of why it stops is told behind the reason's line.
-pub fn mon_job<S: Store, I: Read, O: Write, E: Write>(
+pub fn mon_job<S: Store, I: Source, O: Stream, E: Sink>(
     alloc: Global,
     path: &str,
     explain: bool,
@@ -40,20 +46,20 @@ pub fn mon_job<S: Store, I: Read, O: Write, E: Write>(
     input: &mut I,
     output: &mut O,
     errors: &mut E,
-) -> Ending
-    ensures { Ends explain
+) -> Status
+    ensures { let e = (exchange
+        (source (I.remaining input.old) (I.reads input.old) (I.failures input.old))
+        (source (I.remaining input.new) (I.reads input.new) (I.failures input.new))
+        (stream (O.contents output.old) (O.failures output.old))
+        (stream (O.contents output.new) (O.failures output.new))) in
+        let wrote = Gains (S.held store.old) (S.held store.new) in
+        Ends explain
         (OfTable (files_of (S.held store.old)) path.now (λ table.
-        Mons (files_of (S.held store.old)) table
-        (exchange (I.remaining input.old) (I.remaining input.new)
-        (O.contents output.old) (O.contents output.new))
-        (S.held store.old) (S.held store.new)))
-        (StopsOfTable (files_of (S.held store.old))
-        (Gains (S.held store.old) (S.held store.new)) path.now
-        (StopsMon (files_of (S.held store.old))
-        (exchange (I.remaining input.old) (I.remaining input.new)
-        (O.contents output.old) (O.contents output.new))
-        (Gains (S.held store.old) (S.held store.new))))
-        (E.contents errors.old) (E.contents errors.new) result }
+        Mons (files_of (S.held store.old)) table e (S.held store.old) (S.held store.new)))
+        (StopsOfTable (files_of (S.held store.old)) (BeforeAll e wrote) path.now
+        (StopsMon MOST_READS (files_of (S.held store.old)) e wrote))
+        (stream (E.contents errors.old) (E.failures errors.old))
+        (stream (E.contents errors.new) (E.failures errors.new)) result }
 {
     mon_job_within(
         alloc, path, explain, store, input, output, errors, MOST_READS,
@@ -62,7 +68,7 @@ pub fn mon_job<S: Store, I: Read, O: Write, E: Write>(
 
 /// As `mon_job`, with at most `reads` reads of the input. If none of them finds its end or the command `q`, it counts as one that
 /// failed.
-pub fn mon_job_within<S: Store, I: Read, O: Write, E: Write>(
+pub fn mon_job_within<S: Store, I: Source, O: Stream, E: Sink>(
     alloc: Global,
     path: &str,
     explain: bool,
@@ -71,126 +77,134 @@ pub fn mon_job_within<S: Store, I: Read, O: Write, E: Write>(
     output: &mut O,
     errors: &mut E,
     reads: u64,
-) -> Ending
-    ensures { Ends explain
+) -> Status
+    ensures { let e = (exchange
+        (source (I.remaining input.old) (I.reads input.old) (I.failures input.old))
+        (source (I.remaining input.new) (I.reads input.new) (I.failures input.new))
+        (stream (O.contents output.old) (O.failures output.old))
+        (stream (O.contents output.new) (O.failures output.new))) in
+        let wrote = Gains (S.held store.old) (S.held store.new) in
+        Ends explain
         (OfTable (files_of (S.held store.old)) path.now (λ table.
-        Mons (files_of (S.held store.old)) table
-        (exchange (I.remaining input.old) (I.remaining input.new)
-        (O.contents output.old) (O.contents output.new))
-        (S.held store.old) (S.held store.new)))
-        (StopsOfTable (files_of (S.held store.old))
-        (Gains (S.held store.old) (S.held store.new)) path.now
-        (StopsMon (files_of (S.held store.old))
-        (exchange (I.remaining input.old) (I.remaining input.new)
-        (O.contents output.old) (O.contents output.new))
-        (Gains (S.held store.old) (S.held store.new))))
-        (E.contents errors.old) (E.contents errors.new) result }
+        Mons (files_of (S.held store.old)) table e (S.held store.old) (S.held store.new)))
+        (StopsOfTable (files_of (S.held store.old)) (BeforeAll e wrote) path.now
+        (StopsMon reads (files_of (S.held store.old)) e wrote))
+        (stream (E.contents errors.old) (E.failures errors.old))
+        (stream (E.contents errors.new) (E.failures errors.new)) result }
 {
-    on_table!(alloc, path, Command::Mon, explain, store, errors; table, why =>
-        mon_table(alloc, table, store, input, output, reads, why))
+    on_table!(alloc, path, Command::Mon, explain, store, errors; table, text =>
+        mon_table(alloc, table, text, store, input, output, reads))
 }
 
 /// `mon` on a job's table.
-fn mon_table<'a, S: Store, I: Read, O: Write>(
+fn mon_table<'a, S: Store, I: Source, O: Stream>(
     alloc: Global,
     table: &'a Table,
+    text: &[u8],
     store: &mut S,
     input: &mut I,
     output: &mut O,
     reads: u64,
-    why: &mut Why,
-) -> Result<Status, Stop<'a>>
-    ensures { MatchResult result
-        (Mons (files_of (S.held store.old)) (table_view table.entry.now)
-        (exchange (I.remaining input.old) (I.remaining input.new)
-        (O.contents output.old) (O.contents output.new))
+) -> Result<Did, Halt<'a>>
+    ensures { let e = (exchange
+        (source (I.remaining input.old) (I.reads input.old) (I.failures input.old))
+        (source (I.remaining input.new) (I.reads input.new) (I.failures input.new))
+        (stream (O.contents output.old) (O.failures output.old))
+        (stream (O.contents output.new) (O.failures output.new))) in
+        MatchResult (plain result)
+        (Mons (files_of (S.held store.old)) (table_view table.entry.now) e
         (S.held store.old) (S.held store.new))
-        (StopsMon (files_of (S.held store.old))
-        (exchange (I.remaining input.old) (I.remaining input.new)
-        (O.contents output.old) (O.contents output.new))
+        (StopsMon reads (files_of (S.held store.old)) e
         (Gains (S.held store.old) (S.held store.new)) (table_view table.entry.now)) }
 {
-    let Start { ready, args } = started(alloc, table, store, why)?;
-    let kept = mon_accepted(alloc, &ready, args, input, output, reads, why)?;
-    write_outs(&ready.job.params, &kept.places, store, why)?;
-    Ok(Status::Done)
+    let Start { ready, args } = started(alloc, table, text, Command::Mon, store)?;
+    let kept = mon_accepted(alloc, &ready, args, input, output, reads)?;
+    write_outs(alloc, &ready.job.params, &kept.places, store)?;
+    Ok(Did::Done)
 }
 
 /// Answers lines on the run of a job, at its length of vector registers and setting. The arguments come out as they stand
 /// where the lines end.
-fn mon_accepted<'a, I: Read, O: Write>(
+fn mon_accepted<'a, I: Source, O: Stream>(
     alloc: Global,
     ready: &Ready<'_>,
     args: Args,
     input: &mut I,
     output: &mut O,
     reads: u64,
-    why: &mut Why,
-) -> Result<Args, Stop<'a>>
-    ensures { MatchResult result
+) -> Result<Args, Halt<'a>>
+    ensures { let e = (exchange
+        (source (I.remaining input.old) (I.reads input.old) (I.failures input.old))
+        (source (I.remaining input.new) (I.reads input.new) (I.failures input.new))
+        (stream (O.contents output.old) (O.failures output.old))
+        (stream (O.contents output.new) (O.failures output.new))) in
+        MatchResult (bare result)
         (λ kept. IsStopped (vlenb_of ready.now.job.vlen) ready.now.job.agnostic ready.now.job.max
-        ready.now.accepted args.places
-        (exchange (I.remaining input.old) (I.remaining input.new)
-        (O.contents output.old) (O.contents output.new))
-        kept.places)
-        (StopsWatching (vlenb_of ready.now.job.vlen) ready.now.job.max ready.now.accepted
-        args.places) }
+        ready.now.accepted args.places e kept.places)
+        (StopsWatching reads (vlenb_of ready.now.job.vlen) ready.now.job.max ready.now.accepted
+        args.places e) }
 {
     match ready.job.vlen {
-        Vlen::V128 => mon_session::<16, I, O>(alloc, ready, args, input, output, reads, why),
-        Vlen::V256 => mon_session::<32, I, O>(alloc, ready, args, input, output, reads, why),
-        Vlen::V512 => mon_session::<64, I, O>(alloc, ready, args, input, output, reads, why),
+        Vlen::V128 => mon_session::<16, I, O>(alloc, ready, args, input, output, reads),
+        Vlen::V256 => mon_session::<32, I, O>(alloc, ready, args, input, output, reads),
+        Vlen::V512 => mon_session::<64, I, O>(alloc, ready, args, input, output, reads),
     }
 }
 
 /// Answers lines on a run.
-fn watch<'a, const VLENB: usize, I: Read, O: Write>(
+fn watch<'a, const VLENB: usize, I: Source, O: Stream>(
     alloc: Global,
     session: &mut Session<VLENB>,
     input: &mut I,
     output: &mut O,
     reads: u64,
-    why: &mut Why,
-) -> Result<(), Stop<'a>>
+) -> Result<(), Halt<'a>>
     ensures first { session.new.first ≡ session.old.first }
     ensures talks { OnOk result (AreTold VLENB
-        (exchange (I.remaining input.old) (I.remaining input.new)
-        (O.contents output.old) (O.contents output.new))
+        (exchange
+        (source (I.remaining input.old) (I.reads input.old) (I.failures input.old))
+        (source (I.remaining input.new) (I.reads input.new) (I.failures input.new))
+        (stream (O.contents output.old) (O.failures output.old))
+        (stream (O.contents output.new) (O.failures output.new)))
         session.old session.new) }
-    ensures unanswered { IfErr result IsUnanswered }
+    ensures unanswered { IfErr result (λ halt. IsUnanswered reads
+        (exchange
+        (source (I.remaining input.old) (I.reads input.old) (I.failures input.old))
+        (source (I.remaining input.new) (I.reads input.new) (I.failures input.new))
+        (stream (O.contents output.old) (O.failures output.old))
+        (stream (O.contents output.new) (O.failures output.new)))
+        (stop_of halt)) }
 {
     let mut monitor = Monitor::new(session);
-    answer_lines(alloc, &mut monitor, input, output, reads, why)
+    answer_lines(alloc, &mut monitor, input, output, reads)
 }
 
-fn mon_session<'a, const VLENB: usize, I: Read, O: Write>(
+fn mon_session<'a, const VLENB: usize, I: Source, O: Stream>(
     alloc: Global,
     ready: &Ready<'_>,
     args: Args,
     input: &mut I,
     output: &mut O,
     reads: u64,
-    why: &mut Why,
-) -> Result<Args, Stop<'a>>
+) -> Result<Args, Halt<'a>>
     requires { IsVlenb VLENB }
-    ensures { MatchResult result
+    ensures { let e = (exchange
+        (source (I.remaining input.old) (I.reads input.old) (I.failures input.old))
+        (source (I.remaining input.new) (I.reads input.new) (I.failures input.new))
+        (stream (O.contents output.old) (O.failures output.old))
+        (stream (O.contents output.new) (O.failures output.new))) in
+        MatchResult (bare result)
         (λ kept. IsStopped VLENB ready.now.job.agnostic ready.now.job.max ready.now.accepted
-        args.places
-        (exchange (I.remaining input.old) (I.remaining input.new)
-        (O.contents output.old) (O.contents output.new))
-        kept.places)
-        (StopsWatching VLENB ready.now.job.max ready.now.accepted args.places) }
+        args.places e kept.places)
+        (StopsWatching reads VLENB ready.now.job.max ready.now.accepted args.places e) }
 {
     let Ready { job, accepted } = ready;
     match Session::<VLENB>::open(alloc, accepted, args, job.agnostic, job.max) {
         Ok(mut session) => {
-            watch(alloc, &mut session, input, output, reads, why)?;
+            watch(alloc, &mut session, input, output, reads)?;
             session.stands();
             Ok(session.close())
         }
-        Err((error, args)) => {
-            note_open(accepted, &args, job.max, error, why);
-            Err(Stop::from(error))
-        }
+        Err((error, args)) => Err(not_opened(accepted, &args, job.max, error)),
     }
 }

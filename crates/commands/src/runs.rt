@@ -3,23 +3,26 @@ ghost use Rattle.std.specs.Prelude.{◌≡◌, IfOk, MatchResult};
 ghost use Rattle.job_file.specs.Needs.{run_job_lent};
 ghost use Rattle.toml.specs.View.{table_view};
 ghost use Rattle.vreg_groups.specs.VectorLength.{IsVlenb};
-ghost use Rattle.commands.specs.Ending.{Ends};
+ghost use Rattle.commands.specs.Ending.{Ends, plain};
 ghost use Rattle.commands.specs.Files.{OfTable, StopsOfTable, files_of};
+ghost use Rattle.commands.specs.Halt.{bare};
 ghost use Rattle.commands.specs.Runs.{Runs, StopsRun, run_of_job, session_of};
+ghost use Rattle.commands.specs.Streams.{Wrote, change, stream};
 ghost use Rattle.commands.specs.Trial.{OrMemory};
-ghost use Rattle.commands.specs.Written.{Gains};
 ghost use Rattle.commands.specs.declared.trial.End.TheVariants.{Ended};
 
+use crate::did::Did;
+use crate::halt::Halt;
 use crate::starts::{Ready, Start, on_table, started};
-use crate::stop::{Ending, Status, Stop};
+use crate::stop::Status;
 use crate::store::Store;
 use crate::trial::{Trial, finish};
-use crate::why::{Why, note_open};
+use crate::why::not_opened;
 use job_reasons::Command;
 use region_mem::Args;
+use rv_listing::{Sink, Stream};
 use sandbox_run::Session;
 use std::alloc::Global;
-use std::io::Write;
 use toml::Table;
 use vreg_groups::Vlen;
 
@@ -32,7 +35,7 @@ use vreg_groups::Vlen;
 ///
 /// Where it is to `explain`, more of why it stops is told behind the reason's line. Where `registers` are asked for, those that
 /// the run left are printed behind its line, as `mon` shows them.
-pub fn run_job<S: Store, O: Write, E: Write>(
+pub fn run_job<S: Store, O: Stream, E: Sink>(
     alloc: Global,
     path: &str,
     explain: bool,
@@ -40,41 +43,41 @@ pub fn run_job<S: Store, O: Write, E: Write>(
     store: &mut S,
     output: &mut O,
     errors: &mut E,
-) -> Ending
-    ensures { Ends explain
-        (OfTable (files_of (S.held store.old)) path.now (λ table.
-        Runs (files_of (S.held store.old)) registers table
-        (O.contents output.old) (O.contents output.new)
-        (S.held store.old) (S.held store.new)))
-        (StopsOfTable (files_of (S.held store.old))
-        (Gains (S.held store.old) (S.held store.new)) path.now
-        (StopsRun (files_of (S.held store.old)) (Gains (S.held store.old) (S.held store.new))))
-        (E.contents errors.old) (E.contents errors.new) result }
+) -> Status
+    ensures { let c = (change (S.held store.old) (S.held store.new)
+        (stream (O.contents output.old) (O.failures output.old))
+        (stream (O.contents output.new) (O.failures output.new))) in
+        Ends explain
+        (OfTable (files_of c.was) path.now (λ table. Runs (files_of c.was) registers table c))
+        (StopsOfTable (files_of c.was) (Wrote c) path.now (StopsRun (files_of c.was) registers c))
+        (stream (E.contents errors.old) (E.failures errors.old))
+        (stream (E.contents errors.new) (E.failures errors.new)) result }
 {
-    on_table!(alloc, path, Command::Run, explain, store, errors; table, why =>
-        run_table(alloc, table, registers, store, output, why))
+    on_table!(alloc, path, Command::Run, explain, store, errors; table, text =>
+        run_table(alloc, table, text, registers, store, output))
 }
 
 /// `run` on a job's table.
-fn run_table<'a, S: Store, O: Write>(
+fn run_table<'a, S: Store, O: Stream>(
     alloc: Global,
     table: &'a Table,
+    text: &[u8],
     registers: bool,
     store: &mut S,
     output: &mut O,
-    why: &mut Why,
-) -> Result<Status, Stop<'a>>
-    ensures { MatchResult result
-        (Runs (files_of (S.held store.old)) registers (table_view table.entry.now)
-        (O.contents output.old) (O.contents output.new) (S.held store.old) (S.held store.new))
-        (StopsRun (files_of (S.held store.old)) (Gains (S.held store.old) (S.held store.new))
-        (table_view table.entry.now)) }
+) -> Result<Did, Halt<'a>>
+    ensures { let c = (change (S.held store.old) (S.held store.new)
+        (stream (O.contents output.old) (O.failures output.old))
+        (stream (O.contents output.new) (O.failures output.new))) in
+        MatchResult (plain result)
+        (Runs (files_of c.was) registers (table_view table.entry.now) c)
+        (StopsRun (files_of c.was) registers c (table_view table.entry.now)) }
 {
-    let Start { ready, args } = started(alloc, table, store, why)?;
-    let trial = run_accepted(alloc, &ready, args, why)?;
+    let Start { ready, args } = started(alloc, table, text, Command::Run, store)?;
+    let trial = run_accepted(alloc, &ready, args)?;
     let shown = trial.shown(alloc, registers)?;
     let params = &ready.job.params;
-    finish(params, &trial, shown.as_slice(), store, output, why)
+    finish(alloc, params, &trial, None, shown.as_slice(), store, output)
 }
 
 /// Runs a job on an accepted image and arguments, at the job's length of vector registers and setting.
@@ -82,20 +85,15 @@ fn run_table<'a, S: Store, O: Write>(
 /// Such a run ends. It is refused for the first of: arguments that do not match the certificate's parameters, a bound above
 /// the job's number of steps, and another length than the one that the image was accepted for. Want of memory comes only
 /// where it is not refused.
-fn run_accepted<'a>(
-    alloc: Global,
-    ready: &Ready<'_>,
-    args: Args,
-    why: &mut Why,
-) -> Result<Trial, Stop<'a>>
+fn run_accepted<'a>(alloc: Global, ready: &Ready<'_>, args: Args) -> Result<Trial, Halt<'a>>
     ensures answer { OrMemory (run_of_job (run_job_lent ready.now.job) ready.now.accepted
-        args.places) result }
+        args.places) (bare result) }
     ensures ended { IfOk result (λ trial. trial.end ≡ Ended) }
 {
     match ready.job.vlen {
-        Vlen::V128 => run_session::<16>(alloc, ready, args, why),
-        Vlen::V256 => run_session::<32>(alloc, ready, args, why),
-        Vlen::V512 => run_session::<64>(alloc, ready, args, why),
+        Vlen::V128 => run_session::<16>(alloc, ready, args),
+        Vlen::V256 => run_session::<32>(alloc, ready, args),
+        Vlen::V512 => run_session::<64>(alloc, ready, args),
     }
 }
 
@@ -103,11 +101,10 @@ fn run_session<'a, const VLENB: usize>(
     alloc: Global,
     ready: &Ready<'_>,
     args: Args,
-    why: &mut Why,
-) -> Result<Trial, Stop<'a>>
+) -> Result<Trial, Halt<'a>>
     requires { IsVlenb VLENB }
     ensures answer { OrMemory (session_of VLENB ready.now.job.agnostic ready.now.job.max
-        ready.now.accepted args.places) result }
+        ready.now.accepted args.places) (bare result) }
     ensures ended { IfOk result (λ trial. trial.end ≡ Ended) }
 {
     let Ready { job, accepted } = ready;
@@ -117,9 +114,6 @@ fn run_session<'a, const VLENB: usize>(
             let registers = session.registers();
             Ok(Trial::ended(steps, registers, VLENB, session.close()))
         }
-        Err((error, args)) => {
-            note_open(accepted, &args, job.max, error, why);
-            Err(Stop::from(error))
-        }
+        Err((error, args)) => Err(not_opened(accepted, &args, job.max, error)),
     }
 }

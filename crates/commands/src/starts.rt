@@ -1,38 +1,40 @@
 //! What subcommands on a job begin with: its table, and, for `run` and `mon`, its image, accepted.
-ghost use Rattle.std.specs.Prelude.{◌≡◌, MatchResult};
+ghost use Rattle.std.specs.Prelude.{◌≡◌, MatchResult, Some};
 ghost use Rattle.job_file.specs.Needs.{run_job_lent};
 ghost use Rattle.toml.specs.View.{table_view};
-ghost use Rattle.commands.specs.Starts.{IsStarted, IsUnstarted};
 ghost use Rattle.commands.specs.Files.{files_of};
+ghost use Rattle.commands.specs.Halt.{bare};
+ghost use Rattle.commands.specs.Starts.{IsStarted, IsUnstarted};
+ghost use Rattle.commands.specs.Steps.{IsUnasked};
 
 use crate::accepted::accept;
 use crate::files::{read_args, read_image};
-use crate::stop::Stop;
+use crate::halt::Halt;
 use crate::store::Store;
-use crate::why::Why;
+use crate::why::bad_job;
 use block_checker::Accepted;
 use job_file::{JobError, RunJob, run_job_in};
+use job_reasons::Command;
 use region_mem::Args;
 use std::alloc::Global;
 use toml::Table;
 
-/// Reads the table of the job at `$path`, for a command, does `$work` on it, and tells how it ended.
+/// Reads the job file at `$path`, for a command, does `$work` on its table and its text, and tells how it ended.
 macro_rules! on_table {
     (
         $alloc:ident, $path:expr, $command:expr, $explain:ident, $store:ident, $errors:ident;
-        $table:ident, $why:ident => $work:expr
-    ) => {{
-        let mut why = $crate::why::Why::new($alloc, $explain);
-        let $why = &mut why;
-        match $crate::files::read_table($alloc, $path, $command, $store, $why) {
-            Ok(table) => {
-                let $table = &table;
+        $table:ident, $text:ident => $work:expr
+    ) => {
+        match $crate::files::read_table($alloc, $path, $command, $store) {
+            Ok(file) => {
+                let $table = &file.table;
+                let $text = file.text.as_slice();
                 let done = $work;
-                $crate::stop::ended(done, $why, $explain, $errors)
+                $crate::stop::ended($alloc, done, $explain, $errors)
             }
-            Err(stop) => $crate::stop::ended(Err(stop), $why, $explain, $errors),
+            Err(halt) => $crate::stop::ended($alloc, Err(halt), $explain, $errors),
         }
-    }};
+    };
 }
 
 pub(crate) use on_table;
@@ -51,25 +53,40 @@ pub struct Start<'a> {
     pub args: Args,
 }
 
+/// The job that a command takes of a table, which the text spells, or why it takes none.
+pub fn taken<'a, J>(
+    alloc: Global,
+    asked: Option<J>,
+    text: &[u8],
+    command: Command,
+) -> Result<J, Halt<'a>>
+    ensures { MatchResult (bare result) (λ job. asked ≡ Some job) (IsUnasked asked) }
+{
+    match asked {
+        Some(job) => Ok(job),
+        None => Err(bad_job(alloc, text, command, JobError::BadKey)),
+    }
+}
+
 /// The job that a table asks for, its image, accepted at its length of vector registers, and what
-/// it passes.
+/// it passes. The text is that of the table, for the command.
 pub fn started<'a, S: Store>(
     alloc: Global,
     table: &'a Table,
+    text: &[u8],
+    command: Command,
     store: &mut S,
-    why: &mut Why,
-) -> Result<Start<'a>, Stop<'a>>
-    ensures start { MatchResult result
+) -> Result<Start<'a>, Halt<'a>>
+    ensures start { MatchResult (bare result)
         (λ start. IsStarted (files_of (S.held store.old)) (table_view table.entry.now)
         (run_job_lent start.ready.job) start.ready.accepted start.args.places)
         (IsUnstarted (files_of (S.held store.old)) (table_view table.entry.now)) }
     ensures files { S.held store.new ≡ S.held store.old }
 {
-    let job = run_job_in(table).ok_or(JobError::BadKey)?;
-    why.forget();
-    let image = read_image(alloc, job.image, store, why)?;
-    let accepted = accept(alloc, image, Some(job.vlen), why)?;
-    let args = read_args(alloc, &job.params, store, why)?;
+    let job = taken(alloc, run_job_in(table), text, command)?;
+    let image = read_image(alloc, job.image, store)?;
+    let accepted = accept(alloc, image, Some(job.vlen))?;
+    let args = read_args(alloc, &job.params, store)?;
     let ready = Ready { job, accepted };
     Ok(Start { ready, args })
 }

@@ -5,7 +5,7 @@ ghost use Rattle.std.specs.IoError.{error_kind};
 ghost use Rattle.commands.specs.Ending.{store_error_of};
 ghost use Rattle.commands.specs.declared.store.StoreError.TheVariants as store_error;
 
-use std::alloc::{AllocError, AllocFailed, Global};
+use std::alloc::{AllocError, Global};
 use std::error::Error;
 use std::io::{ErrorKind, Read, Write};
 use std::rt::Files;
@@ -18,6 +18,9 @@ pub const MOST_READS: u64 = 1 << 32;
 pub fn reads_in_numbers()
     ensures { MOST_READS ≡ 0x1_0000_0000 }
 {}
+
+/// The kind of the error of a file that counts as one that never ends. The system says none of this kind.
+const ENDLESS: ErrorKind = ErrorKind::Other;
 
 /// Why a file was not read or written.
 #[derive(Clone, Copy, Debug, PartialEq, Eq)]
@@ -98,6 +101,11 @@ pub struct Disk<'a, R> {
     failure: Option<ErrorKind>,
 }
 
+/// What the system says where an error is of this kind, if it says anything.
+fn said(kind: ErrorKind) -> Option<ErrorKind> {
+    if kind == ENDLESS { None } else { Some(kind) }
+}
+
 impl<'a, R> Disk<'a, R> {
     /// The files that the handle `rt` opens.
     pub fn new(rt: &'a R) -> Disk<'a, R>
@@ -106,7 +114,7 @@ impl<'a, R> Disk<'a, R> {
         Disk { rt, failure: None }
     }
 
-    /// What came of a call. What the system says where it failed is kept.
+    /// What came of a call. What the system says where it failed is kept, if it says anything.
     fn kept<T>(&mut self, came: io::Result<T>) -> Result<T, StoreError>
         ensures { OnOk result (self.new.failure ≡ None) }
     {
@@ -116,7 +124,7 @@ impl<'a, R> Disk<'a, R> {
                 Ok(value)
             }
             Err(error) => {
-                self.failure = Some(error.kind());
+                self.failure = said(error.kind());
                 Err(StoreError::from(error))
             }
         }
@@ -193,7 +201,7 @@ fn read_up_to<R: Read>(
             Err(error) => return Err(error),
         }
     }
-    Err(io::Error::from(ErrorKind::FileTooLarge))
+    Err(io::Error::from(ENDLESS))
 }
 
 /// Makes a file of the system at a path.

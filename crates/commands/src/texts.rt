@@ -1,18 +1,20 @@
 //! How a reason to stop is told.
-ghost use Rattle.std.specs.Prelude.{◌≡◌};
+ghost use Rattle.std.specs.Prelude.{◌≡◌, ◌++◌, Some, codes};
+ghost use Rattle.block_checker.specs.Refusals.{at_address};
+ghost use Rattle.job_reasons.specs.Escaped.{escaped_text};
+ghost use Rattle.rv_listing.specs.Sinks.{Told};
 ghost use Rattle.commands.specs.Texts.{certificate_error_name, image_error_name};
 ghost use Rattle.commands.specs.Texts.{job_error_name, monitor_error_name, open_error_name};
+ghost use Rattle.commands.specs.Texts.{refused_line, stop_text};
 
+use crate::escapes::put_escaped;
 use crate::stop::Stop;
 use cert_note::CertError;
 use elf_image::ElfError;
 use job_file::JobError;
-use job_reasons::Escaped;
 use monitor::MonError;
-use region_mem::Digits;
+use rv_listing::{Failed, Piece, Sink, put, put_all};
 use sandbox_run::OpenError;
-use std::error::Error;
-use std::fmt;
 
 fn job_error_name(error: JobError) -> &'static str
     ensures { result.now ≡ job_error_name error }
@@ -94,63 +96,74 @@ pub fn monitor_error_name(error: MonError) -> &'static str
     }
 }
 
-/// Why a check or a maker refused: the error's name, and the address of the word at which it stopped, if there is one.
-#[derive(Drop)]
-struct Reason {
-    name: &'static str,
-    address: Option<u32>,
+/// Tells a name between two texts.
+fn put_name<'x, E: Sink>(before: &'x str, name: &'x str, errors: &mut E) -> Result<(), Failed>
+    ensures { Told result (E.contents errors.old) (E.contents errors.new)
+        (E.failures errors.old) (E.failures errors.new)
+        (before.now ++ (name.now ++ codes "\n")) }
+{
+    put_all(
+        errors,
+        &[Piece::Text(before), Piece::Text(name), Piece::Text("\n")],
+    )
 }
 
-impl fmt::Display for Reason {
-    ghost use Rattle.std.specs.Prelude.{Some};
-    ghost use Rattle.block_checker.specs.Refusals.{at_address};
+/// Tells a refusal at an address.
+fn put_at<E: Sink>(name: &str, address: u32, errors: &mut E) -> Result<(), Failed>
+    ensures { Told result (E.contents errors.old) (E.contents errors.new)
+        (E.failures errors.old) (E.failures errors.new)
+        (refused_line (at_address name.now (Some address))) }
+{
+    put_all(
+        errors,
+        &[
+            Piece::Text("refused: "),
+            Piece::Text(name),
+            Piece::Text(" at "),
+            Piece::Word(address),
+            Piece::Text("\n"),
+        ],
+    )
+}
 
-    ghost output = { λ reason. Some (at_address reason.name.now reason.address) };
-
-    fn fmt<W: fmt::Write>(&self, f: &mut fmt::Formatter<W>) -> fmt::Result {
-        let name = self.name;
-        match self.address {
-            Some(address) => write!(f, "{name} at {}", Digits(u64::from(address))),
-            None => write!(f, "{name}"),
-        }
+/// Tells a refusal, and the address of the word at which it came, if there is one.
+fn put_refusal<E: Sink>(name: &str, address: Option<u32>, errors: &mut E) -> Result<(), Failed>
+    ensures { Told result (E.contents errors.old) (E.contents errors.new)
+        (E.failures errors.old) (E.failures errors.new)
+        (refused_line (at_address name.now address)) }
+{
+    match address {
+        Some(address) => put_at(name, address, errors),
+        None => put_name("refused: ", name, errors),
     }
 }
 
-impl fmt::Display for Stop<'_> {
-    ghost use Rattle.std.specs.Prelude.{Some};
-    ghost use Rattle.commands.specs.Texts.{stop_text};
-
-    ghost output = { λ stop. Some (stop_text stop) };
-
-    fn fmt<W: fmt::Write>(&self, f: &mut fmt::Formatter<W>) -> fmt::Result {
-        match self {
-            Stop::Job(error) => writeln!(f, "job: {}", job_error_name(*error)),
-            Stop::File(path) => {
-                let path = Escaped(*path);
-                writeln!(f, "file: {path}")
-            }
-            Stop::Image(error) => writeln!(f, "refused: {}", image_error_name(*error)),
-            Stop::NoCertificate => writeln!(f, "refused: NoCertificate"),
-            Stop::Certificate(error) => writeln!(f, "refused: {}", certificate_error_name(*error)),
-            Stop::Check(error) => {
-                let reason = Reason {
-                    name: error.name(),
-                    address: error.address(),
-                };
-                writeln!(f, "refused: {reason}")
-            }
-            Stop::Make(error) => {
-                let reason = Reason {
-                    name: error.name(),
-                    address: error.address(),
-                };
-                writeln!(f, "refused: {reason}")
-            }
-            Stop::Open(error) => writeln!(f, "refused: {}", open_error_name(*error)),
-            Stop::Memory => writeln!(f, "out of memory"),
-            Stop::Output => Ok(()),
-        }
-    }
+/// Tells the path of a file that was not read or not written.
+fn put_path<E: Sink>(path: &str, errors: &mut E) -> Result<(), Failed>
+    ensures { Told result (E.contents errors.old) (E.contents errors.new)
+        (E.failures errors.old) (E.failures errors.new)
+        (codes "file: " ++ (escaped_text path.now ++ codes "\n")) }
+{
+    put(errors, b"file: ".as_slice())?;
+    put_escaped(path, errors)?;
+    put(errors, b"\n".as_slice())
 }
 
-impl Error for Stop<'_> {}
+/// Tells why a subcommand stops, in a line.
+pub fn put_stop<E: Sink>(stop: &Stop<'_>, errors: &mut E) -> Result<(), Failed>
+    ensures { Told result (E.contents errors.old) (E.contents errors.new)
+        (E.failures errors.old) (E.failures errors.new) (stop_text stop.now) }
+{
+    match stop {
+        Stop::Job(error) => put_name("job: ", job_error_name(*error), errors),
+        Stop::File(path) => put_path(path, errors),
+        Stop::Image(error) => put_name("refused: ", image_error_name(*error), errors),
+        Stop::NoCertificate => put_name("refused: ", "NoCertificate", errors),
+        Stop::Certificate(error) => put_name("refused: ", certificate_error_name(*error), errors),
+        Stop::Check(error) => put_refusal(error.name(), error.address(), errors),
+        Stop::Make(error) => put_refusal(error.name(), error.address(), errors),
+        Stop::Open(error) => put_name("refused: ", open_error_name(*error), errors),
+        Stop::Memory => put(errors, b"out of memory\n".as_slice()),
+        Stop::Output => put(errors, b"".as_slice()),
+    }
+}

@@ -1,25 +1,27 @@
 //! What comes of a run: how it ended, how that is told, and which status the program has then.
-ghost use Rattle.std.specs.Prelude.{◌≡◌, ◌++◌, IfErr, IfOk, OnOk, map};
-ghost use Rattle.std.specs.Io.KnownBytes.{Appends};
+ghost use Rattle.std.specs.Prelude.{◌≡◌, ◌++◌, IfErr, IfOk, IfSome, OnOk, map};
 ghost use Rattle.job_file.specs.Needs.{run_param_lent};
-ghost use Rattle.commands.specs.Ending.{status_of_end};
+ghost use Rattle.rv_listing.specs.Sinks.{Told};
+ghost use Rattle.commands.specs.Did.{did_of, place_line, place_text, status_with};
+ghost use Rattle.commands.specs.Ending.{plain, status_of_end};
 ghost use Rattle.commands.specs.Files.{IsUnfinished, files_of, outs_of};
-ghost use Rattle.commands.specs.Trial.{line_of, shown_of};
+ghost use Rattle.commands.specs.Halt.{stop_of};
+ghost use Rattle.commands.specs.Streams.{Prints, change, stream};
+ghost use Rattle.commands.specs.Trial.{end_line, line_of, shown_of};
 ghost use Rattle.commands.specs.Written.{Gains};
 ghost use Rattle.commands.specs.declared.stop.Stop.TheVariants.{Memory};
 
+use crate::did::{Did, Place, place_at, stopped_at};
 use crate::files::write_outs;
+use crate::halt::Halt;
 use crate::registers::put_state;
-use crate::stop::{Status, Stop};
 use crate::store::Store;
-use crate::why::Why;
+use elf_image::Image;
 use job_file::RunParam;
-use region_mem::{Args, Digits, Fault};
-use rv_listing::Over;
+use region_mem::{Args, Fault};
+use rv_listing::{Failed, Over, Piece, Sink, Stream, print, put_all};
 use sandbox_run::{Final, Registers};
 use std::alloc::Global;
-use std::io;
-use std::io::Write;
 
 /// How a run ended.
 #[derive(Clone, Copy)]
@@ -86,9 +88,9 @@ impl Trial {
     }
 
     /// The lines that show the registers as `mon` does, where they are `asked` for.
-    pub fn shown<'a>(&self, alloc: Global, asked: bool) -> Result<Vec<u8>, Stop<'a>>
+    pub fn shown<'a>(&self, alloc: Global, asked: bool) -> Result<Vec<u8>, Halt<'a>>
         ensures shown { IfOk result (λ text. text.items ≡ shown_of asked self.now) }
-        ensures memory { IfErr result (λ reason. reason ≡ Memory) }
+        ensures memory { IfErr result (λ halt. stop_of halt ≡ Memory) }
     {
         if !asked {
             return Ok(Vec::new(alloc));
@@ -96,72 +98,107 @@ impl Trial {
         let mut text = Over::new(Vec::new(alloc));
         match put_state(&mut text, &self.registers, self.vlenb) {
             Ok(()) => Ok(text.into_inner()),
-            Err(_) => Err(Stop::Memory),
+            Err(_) => Err(Halt::Memory),
         }
     }
 
-    /// Prints the line that tells how the run ended.
-    fn print_line<O: Write>(&self, output: &mut O) -> io::Result<()>
-        ensures { OnOk result
-            (Appends (O.contents output.old) (O.contents output.new) (line_of self.now)) }
+    /// Tells how the run ended.
+    fn put_line<O: Sink>(&self, output: &mut O) -> Result<(), Failed>
+        ensures { Told result (O.contents output.old) (O.contents output.new)
+            (O.failures output.old) (O.failures output.new) (line_of self.now) }
     {
-        let steps = self.steps;
+        let steps = Piece::Number(self.steps);
         match self.end {
-            End::Ended => writeln!(output, "ended: {steps} steps"),
-            End::Trapped(fault) => {
-                let name = fault.name();
-                let at = Digits(u64::from(fault.number()));
-                writeln!(output, "trapped: {name} {at} after {steps} steps")
+            End::Ended => put_all(
+                output,
+                &[Piece::Text("ended: "), steps, Piece::Text(" steps\n")],
+            ),
+            End::Trapped(fault) => put_trap(fault, self.steps, output),
+            End::OutOfSteps => {
+                put_all(
+                    output,
+                    &[Piece::Text("out of steps: "), steps, Piece::Text("\n")],
+                )
             }
-            End::OutOfSteps => writeln!(output, "out of steps: {steps}"),
         }
     }
 
     /// Prints how the run ended, and behind it these lines.
-    fn print<O: Write>(&self, shown: &[u8], output: &mut O) -> io::Result<()>
-        ensures { OnOk result (Appends (O.contents output.old) (O.contents output.new)
-            (line_of self.now ++ shown.now)) }
+    fn print<O: Stream>(&self, shown: &[u8], output: &mut O) -> Result<(), Failed>
+        ensures { Told result (O.contents output.old) (O.contents output.new)
+            (O.failures output.old) (O.failures output.new) (line_of self.now ++ shown.now) }
     {
-        self.print_line(output)?;
-        output.write_all(shown)?;
-        output.flush()
+        self.put_line(output)?;
+        print(output, shown)
     }
 
-    /// The status of a run that was printed.
-    pub fn status(&self) -> Status
-        ensures { result ≡ status_of_end self.now.end }
+    /// Where a run of the image stands as it ended, where memory suffices to list the word there.
+    pub fn place(&self, alloc: Global, image: &Image) -> Option<Place>
+        ensures { IfSome result (λ place.
+            place_text place ≡ place_line image.now self.now.registers.pc) }
+    {
+        place_at(alloc, image, self.registers.pc)
+    }
+
+    /// What was done where this was printed, of a run that stands at the place.
+    fn did(&self, place: Option<Place>) -> Did
+        ensures did { result ≡ did_of self.now.end place }
+        ensures status { status_with result ≡ status_of_end self.now.end }
     {
         match self.end {
-            End::Ended => Status::Done,
-            End::Trapped(_) | End::OutOfSteps => Status::Stopped,
+            End::Ended => Did::Done,
+            End::Trapped(fault) => stopped_at(Some(fault), place),
+            End::OutOfSteps => stopped_at(None, place),
         }
     }
 }
 
-/// Writes the out files of a run by place, and then prints how it ended, and behind it these lines.
-pub fn finish<'a, S: Store, O: Write>(
+/// Tells that a run met a fault after these steps.
+fn put_trap<O: Sink>(fault: Fault, steps: u64, output: &mut O) -> Result<(), Failed>
+    ensures { Told result (O.contents output.old) (O.contents output.new)
+        (O.failures output.old) (O.failures output.new) (end_line (End.Trapped fault) steps) }
+{
+    put_all(
+        output,
+        &[
+            Piece::Text("trapped: "),
+            Piece::Text(fault.name()),
+            Piece::Text(" "),
+            Piece::Word(fault.number()),
+            Piece::Text(" after "),
+            Piece::Number(steps),
+            Piece::Text(" steps\n"),
+        ],
+    )
+}
+
+/// Writes the out files of a run by place, and then prints how it ended, and behind it these lines. The run stands at the place.
+pub fn finish<'a, S: Store, O: Stream>(
+    alloc: Global,
     params: &[RunParam<&'a str>; 8],
     trial: &Trial,
+    place: Option<Place>,
     shown: &[u8],
     store: &mut S,
     output: &mut O,
-    why: &mut Why,
-) -> Result<Status, Stop<'a>>
-    ensures done { IfOk result (λ status. status ≡ status_of_end trial.now.end) }
-    ensures told { OnOk result (Appends (O.contents output.old) (O.contents output.new)
+) -> Result<Did, Halt<'a>>
+    ensures did { IfOk result (λ did. did ≡ did_of trial.now.end place) }
+    ensures done { IfOk (plain result) (λ status. status ≡ status_of_end trial.now.end) }
+    ensures told { OnOk (plain result) (Prints
+        (stream (O.contents output.old) (O.failures output.old))
+        (stream (O.contents output.new) (O.failures output.new))
         (line_of trial.now ++ shown.now)) }
-    ensures wrote { OnOk result (Gains (S.held store.old) (S.held store.new)
+    ensures wrote { OnOk (plain result) (Gains (S.held store.old) (S.held store.new)
         (outs_of (map run_param_lent params.now) trial.now.args.places)) }
-    ensures unfinished { IfErr result
-        (IsUnfinished (files_of (S.held store.old)) (Gains (S.held store.old) (S.held store.new))
-        (map run_param_lent params.now) trial.now.args.places) }
+    ensures unfinished { IfErr (plain result) (IsUnfinished (files_of (S.held store.old))
+        (change (S.held store.old) (S.held store.new)
+        (stream (O.contents output.old) (O.failures output.old))
+        (stream (O.contents output.new) (O.failures output.new)))
+        (map run_param_lent params.now) trial.now.args.places (line_of trial.now ++ shown.now)) }
 {
-    write_outs(params, &trial.args.places, store, why)?;
+    write_outs(alloc, params, &trial.args.places, store)?;
     match trial.print(shown, output) {
-        Ok(()) => Ok(trial.status()),
-        Err(_) => {
-            why.forget();
-            Err(Stop::Output)
-        }
+        Ok(()) => Ok(trial.did(place)),
+        Err(_) => Err(Halt::Output),
     }
 }

@@ -3,27 +3,29 @@ ghost use Rattle.std.specs.Prelude.{◌≡◌, MatchResult, map};
 ghost use Rattle.job_file.specs.Needs.{run_param_lent, try_job_lent, try_param_lent};
 ghost use Rattle.toml.specs.View.{table_view};
 ghost use Rattle.vreg_groups.specs.VectorLength.{IsVlenb};
-ghost use Rattle.commands.specs.Ending.{Ends};
+ghost use Rattle.commands.specs.Ending.{Ends, plain};
 ghost use Rattle.commands.specs.Files.{OfTable, StopsOfTable, files_of};
+ghost use Rattle.commands.specs.Halt.{bare};
+ghost use Rattle.commands.specs.Streams.{Wrote, change, stream};
 ghost use Rattle.commands.specs.Trial.{OrMemory};
 ghost use Rattle.commands.specs.Tries.{StopsTry, Tries, param_for, params_for, passed_by};
 ghost use Rattle.commands.specs.Tries.{passed_size, run_of, trial_of};
-ghost use Rattle.commands.specs.Written.{Gains};
 
+use crate::did::Did;
 use crate::files::{read_args, read_image};
-use crate::more::More;
-use crate::starts::on_table;
-use crate::stop::{Ending, Status, Stop};
+use crate::halt::Halt;
+use crate::starts::{on_table, taken};
+use crate::stop::Status;
 use crate::store::Store;
 use crate::trial::{End, Trial, finish, trial_at};
-use crate::why::{Why, note_argument, note_place};
+use crate::why::not_started;
 use elf_image::Image;
-use job_file::{JobError, RunParam, TryJob, TryParam, try_job_in};
+use job_file::{RunParam, TryJob, TryParam, try_job_in};
 use job_reasons::Command;
 use region_mem::{Arg, Args, Param, Parameters};
+use rv_listing::{Sink, Stream};
 use sandbox_run::{Outcome, try_run};
 use std::alloc::Global;
-use std::io::Write;
 use toml::Table;
 use vreg_groups::Vlen;
 
@@ -35,7 +37,7 @@ use vreg_groups::Vlen;
 ///
 /// Where it is to `explain`, more of why it stops is told behind the reason's line. Where `registers` are asked for, those that
 /// the run left are printed behind its line, as `mon` shows them.
-pub fn try_job<S: Store, O: Write, E: Write>(
+pub fn try_job<S: Store, O: Stream, E: Sink>(
     alloc: Global,
     path: &str,
     explain: bool,
@@ -43,44 +45,52 @@ pub fn try_job<S: Store, O: Write, E: Write>(
     store: &mut S,
     output: &mut O,
     errors: &mut E,
-) -> Ending
-    ensures { Ends explain
-        (OfTable (files_of (S.held store.old)) path.now (λ table.
-        Tries (files_of (S.held store.old)) registers table
-        (O.contents output.old) (O.contents output.new)
-        (S.held store.old) (S.held store.new)))
-        (StopsOfTable (files_of (S.held store.old))
-        (Gains (S.held store.old) (S.held store.new)) path.now
-        (StopsTry (files_of (S.held store.old)) (Gains (S.held store.old) (S.held store.new))))
-        (E.contents errors.old) (E.contents errors.new) result }
+) -> Status
+    ensures { let c = (change (S.held store.old) (S.held store.new)
+        (stream (O.contents output.old) (O.failures output.old))
+        (stream (O.contents output.new) (O.failures output.new))) in
+        Ends explain
+        (OfTable (files_of c.was) path.now (λ table. Tries (files_of c.was) registers table c))
+        (StopsOfTable (files_of c.was) (Wrote c) path.now (StopsTry (files_of c.was) registers c))
+        (stream (E.contents errors.old) (E.failures errors.old))
+        (stream (E.contents errors.new) (E.failures errors.new)) result }
 {
-    on_table!(alloc, path, Command::Try, explain, store, errors; table, why =>
-        try_table(alloc, table, registers, store, output, why))
+    on_table!(alloc, path, Command::Try, explain, store, errors; table, text =>
+        try_table(alloc, table, text, registers, store, output))
 }
 
 /// `try` on a job's table.
-fn try_table<'a, S: Store, O: Write>(
+fn try_table<'a, S: Store, O: Stream>(
     alloc: Global,
     table: &'a Table,
+    text: &[u8],
     registers: bool,
     store: &mut S,
     output: &mut O,
-    why: &mut Why,
-) -> Result<Status, Stop<'a>>
-    ensures { MatchResult result
-        (Tries (files_of (S.held store.old)) registers (table_view table.entry.now)
-        (O.contents output.old) (O.contents output.new) (S.held store.old) (S.held store.new))
-        (StopsTry (files_of (S.held store.old)) (Gains (S.held store.old) (S.held store.new))
-        (table_view table.entry.now)) }
+) -> Result<Did, Halt<'a>>
+    ensures { let c = (change (S.held store.old) (S.held store.new)
+        (stream (O.contents output.old) (O.failures output.old))
+        (stream (O.contents output.new) (O.failures output.new))) in
+        MatchResult (plain result)
+        (Tries (files_of c.was) registers (table_view table.entry.now) c)
+        (StopsTry (files_of c.was) registers c (table_view table.entry.now)) }
 {
-    let job = try_job_in(table).ok_or(JobError::BadKey)?;
-    why.forget();
-    let image = read_image(alloc, job.image, store, why)?;
+    let job = taken(alloc, try_job_in(table), text, Command::Try)?;
+    let image = read_image(alloc, job.image, store)?;
     let passed = passed_params(&job.params);
-    let args = read_args(alloc, &passed, store, why)?;
-    let trial = run_tried(alloc, &job, &image, args, why)?;
+    let args = read_args(alloc, &passed, store)?;
+    let trial = run_tried(alloc, &job, &image, args)?;
     let shown = trial.shown(alloc, registers)?;
-    finish(&passed, &trial, shown.as_slice(), store, output, why)
+    let place = trial.place(alloc, &image);
+    finish(
+        alloc,
+        &passed,
+        &trial,
+        place,
+        shown.as_slice(),
+        store,
+        output,
+    )
 }
 
 /// Runs a job on an image and on arguments, at the job's length of vector registers, setting and number of steps.
@@ -92,18 +102,16 @@ fn run_tried<'a>(
     job: &TryJob<&str>,
     image: &Image,
     args: Args,
-    why: &mut Why,
-) -> Result<Trial, Stop<'a>>
-    ensures { OrMemory (trial_of (try_job_lent job.now) image.now args.places) result }
+) -> Result<Trial, Halt<'a>>
+    ensures { OrMemory (trial_of (try_job_lent job.now) image.now args.places) (bare result) }
 {
     let Some(parameters) = Parameters::new(params_for(&job.params, &args.places)) else {
-        why.note(More::LargeFile);
-        return Err(Stop::Job(JobError::BadKey));
+        return Err(Halt::LargeFile);
     };
     match job.vlen {
-        Vlen::V128 => run::<16>(alloc, job, image, &parameters, args, why),
-        Vlen::V256 => run::<32>(alloc, job, image, &parameters, args, why),
-        Vlen::V512 => run::<64>(alloc, job, image, &parameters, args, why),
+        Vlen::V128 => run::<16>(alloc, job, image, &parameters, args),
+        Vlen::V256 => run::<32>(alloc, job, image, &parameters, args),
+        Vlen::V512 => run::<64>(alloc, job, image, &parameters, args),
     }
 }
 
@@ -151,26 +159,16 @@ fn run<'a, const VLENB: usize>(
     image: &Image,
     parameters: &Parameters,
     args: Args,
-    why: &mut Why,
-) -> Result<Trial, Stop<'a>>
+) -> Result<Trial, Halt<'a>>
     requires { IsVlenb VLENB }
     ensures { OrMemory (run_of VLENB job.now.agnostic job.now.max
-        image.now args.places parameters.now) result }
+        image.now args.places parameters.now) (bare result) }
 {
     match try_run::<VLENB>(alloc, image, parameters, args, job.agnostic, job.max) {
         Ok(Outcome::Ended(last)) => Ok(trial_at(End::Ended, last)),
-        Ok(Outcome::Trapped(fault, last)) => {
-            note_place(alloc, image, Some(fault), last.registers.pc, why);
-            Ok(trial_at(End::Trapped(fault), last))
-        }
-        Ok(Outcome::OutOfSteps(last)) => {
-            note_place(alloc, image, None, last.registers.pc, why);
-            Ok(trial_at(End::OutOfSteps, last))
-        }
-        Err((error, args)) => {
-            note_argument(parameters, &args, 0, job.max, error, why);
-            Err(Stop::from(error))
-        }
+        Ok(Outcome::Trapped(fault, last)) => Ok(trial_at(End::Trapped(fault), last)),
+        Ok(Outcome::OutOfSteps(last)) => Ok(trial_at(End::OutOfSteps, last)),
+        Err((error, args)) => Err(not_started(parameters, &args, 0, job.max, error)),
     }
 }
 

@@ -3,7 +3,7 @@ use crate::error::CaseError;
 use crate::shelf::Shelf;
 use crate::streams::{Input, Manner, Output};
 use command_line::perform;
-use commands::{Ending, Status, mon_job_within};
+use commands::{Counted, Over, Status, mon_job_within};
 use std::alloc::Global;
 
 /// Where `--explain` stands among words.
@@ -77,14 +77,14 @@ fn put_lines(lines: &mut String, sign: &str, stream: &[u8]) -> Result<(), CaseEr
 }
 
 /// Performs the words of a line, or `mon` alone where its reads are limited.
-fn ending_of(
+fn status_of(
     shelf: &mut Shelf,
     words: &[&str],
     reads: Option<u64>,
-    input: &mut Input<'_>,
-    output: &mut Output,
-    errors: &mut Vec<u8>,
-) -> Ending {
+    input: &mut Counted<Input<'_>>,
+    output: &mut Over<Output>,
+    errors: &mut Over<Vec<u8>>,
+) -> Status {
     let alloc = shelf.alloc;
     match (reads, words) {
         (Some(most), [_, _, job]) => {
@@ -129,13 +129,13 @@ pub(crate) fn lines_of(
     let alloc = shelf.alloc;
     let words = words_of(alloc, line, flag)?;
     let given = Vec::from_slice(alloc, shelf.get("-").unwrap_or(&[]))?;
-    let mut input = Input {
+    let mut input = Counted::new(Input {
         bytes: given.as_slice(),
         manner: streams.input,
-    };
-    let mut output = output_of(alloc, streams.output);
-    let mut errors = Vec::new(alloc);
+    });
+    let mut output = Over::new(output_of(alloc, streams.output));
+    let mut errors = Over::new(Vec::new(alloc));
     let (out, err) = (&mut output, &mut errors);
-    let ending = ending_of(shelf, &words, streams.reads, &mut input, out, err);
-    told(alloc, ending.status, &output, &errors)
+    let status = status_of(shelf, &words, streams.reads, &mut input, out, err);
+    told(alloc, status, &output.into_inner(), &errors.into_inner())
 }

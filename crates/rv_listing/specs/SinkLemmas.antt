@@ -106,3 +106,23 @@ pub told_err : {E : Type 0} (r : Result (Unit {0}) E) (a b : Option (List ℕ)) 
     → IsErr r → AppendsSome a b xs × IsCounted k n → Told r a b k n xs
 told_err (Ok done) a b k n xs is part = absurd (let f = is in cc)
 told_err (Err e) a b k n xs is part = part
+
+-- ---- what a writer keeps
+
+pub kept_same : (a : Option (List ℕ)) → Keeps a a
+kept_same None = tt
+kept_same (Some p) = refl
+
+pub keeps_both : (a b c : Option (List ℕ)) → Keeps a b → Keeps b c → Keeps a c
+keeps_both None b c first more = tt
+keeps_both (Some p) None c first more = absurd first
+keeps_both (Some p) (Some q) None first more = absurd more
+keeps_both (Some p) (Some q) (Some r) first more = more ∙ first
+
+-- and then takes more
+pub keeps_then : (a b c : Option (List ℕ)) (text : List ℕ)
+    → Keeps a b → Appends b c text → Appends a c text
+keeps_then None b c text first more = tt
+keeps_then (Some p) None c text first more = absurd first
+keeps_then (Some p) (Some q) None text first more = absurd more
+keeps_then (Some p) (Some q) (Some r) text first more = more ∙ ap (λ l. l ++ text) first

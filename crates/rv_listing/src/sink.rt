@@ -1,11 +1,15 @@
 //! Where texts are written to.
-ghost use Rattle.std.specs.Io.KnownBytes.{Keeps, WriteAppends};
-ghost use Rattle.std.specs.Prelude.{◌≡◌, ◌≤◌, ◌<◌, ◌^◌, IfOk, length};
+ghost use Rattle.std.specs.Io.KnownBytes.{WriteAppends};
+ghost use Rattle.std.specs.Prelude.{◌≡◌, ◌≤◌, IfOk, length};
+ghost use Rattle.std.specs.Result.{is_err};
 ghost use Rattle.rv_listing.specs.Sinks.{Told, counted, has_failed};
 
 use std::error::Error;
-use std::fmt;
-use std::io::Write;
+use std::io::{ErrorKind, Write};
+use std::{fmt, io};
+
+/// How often a write that is interrupted is begun again.
+const MOST_TRIES: u64 = 1 << 32;
 
 /// A write failed.
 #[derive(Clone, Copy, Debug, PartialEq, Eq)]
@@ -43,6 +47,17 @@ pub trait Sink {
             ≡ counted (has_failed result bytes.now) (failures self.old) };
 }
 
+/// A sink that passes on what it has taken.
+pub trait Stream: Sink {
+    ghost use Rattle.std.specs.Io.KnownBytes.{Keeps};
+
+    /// Passes on what it has taken. Where it does not, that counts as a failed write.
+    fn pass_on(&mut self) -> Result<(), Failed>
+        ensures bytes { Keeps (Self.contents self.old) (Self.contents self.new) }
+        ensures counts { Self.failures self.new
+            ≡ counted (is_err result) (Self.failures self.old) };
+}
+
 /// Any writer, with a count of the writes that failed.
 #[derive(Drop)]
 pub struct Over<T> {
@@ -75,7 +90,7 @@ impl<T: Write> Sink for Over<T> {
     ghost failures = { λ over. over.failures };
 
     fn write(&mut self, bytes: &[u8]) -> Result<usize, Failed> {
-        match self.writer.write(bytes) {
+        match write_some(&mut self.writer, bytes) {
             Ok(n) if n > 0 || bytes.is_empty() => Ok(n),
             Ok(_) => {
                 self.failures = self.failures.saturating_add(1);
@@ -87,6 +102,32 @@ impl<T: Write> Sink for Over<T> {
             }
         }
     }
+}
+
+impl<T: Write> Stream for Over<T> {
+    fn pass_on(&mut self) -> Result<(), Failed> {
+        match self.writer.flush() {
+            Ok(()) => Ok(()),
+            Err(_) => {
+                self.failures = self.failures.saturating_add(1);
+                Err(Failed)
+            }
+        }
+    }
+}
+
+/// Writes some of the bytes. A write that is interrupted is begun again.
+fn write_some<W: Write>(writer: &mut W, bytes: &[u8]) -> io::Result<usize>
+    ensures bound { IfOk result (λ n. n ≤ length bytes.now) }
+    ensures bytes { WriteAppends (W.contents writer.old) (W.contents writer.new) result bytes.now }
+{
+    for _ in 0..MOST_TRIES {
+        match writer.write(bytes) {
+            Err(error) if error.kind() == ErrorKind::Interrupted => {}
+            wrote => return wrote,
+        }
+    }
+    Err(io::Error::from(ErrorKind::Interrupted))
 }
 
 /// Writes all bytes of a text, or what the sink takes of them before a write fails.
@@ -103,4 +144,13 @@ pub fn put<S: Sink>(out: &mut S, text: &[u8]) -> Result<(), Failed>
         }
     }
     Ok(())
+}
+
+/// Writes all bytes of a text, and has the stream pass them on.
+pub fn print<S: Stream>(out: &mut S, text: &[u8]) -> Result<(), Failed>
+    ensures { Told result (S.contents out.old) (S.contents out.new)
+        (S.failures out.old) (S.failures out.new) text.now }
+{
+    put(out, text)?;
+    out.pass_on()
 }

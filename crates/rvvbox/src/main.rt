@@ -6,7 +6,7 @@
 #![tactic(auto)]
 
 use command_line::{end_without_words, perform};
-use commands::{Disk, Ending};
+use commands::{Counted, Disk, Over, Status};
 use std::alloc::Global;
 use std::io::{IsTerminal, Read, Write};
 use std::process::ExitCode;
@@ -47,22 +47,22 @@ impl<R: Read, E: Write> Read for Prompting<R, E> {
 }
 
 fn main(rt: HostRuntime) -> ExitCode {
-    let ending = match answer(&rt) {
-        Ok(ending) => ending,
-        Err(error) => end_without_words(error, &mut rt.stderr()),
+    let status = match answer(&rt) {
+        Ok(status) => status,
+        Err(error) => end_without_words(error, &mut Over::new(rt.stderr())),
     };
-    ExitCode::from(ending.status.code())
+    ExitCode::from(status.code())
 }
 
 /// Performs the command line that the system passed on, which has to be UTF-8.
-fn answer(rt: &HostRuntime) -> io::Result<Ending> {
+fn answer(rt: &HostRuntime) -> io::Result<Status> {
     let alloc = rt.alloc();
     let texts: Vec<String> = env::args(rt)?.collect(alloc)?;
     let mut words: Vec<&str> = Vec::with_capacity(alloc, texts.len())?;
     for text in &texts {
         words.push(text.as_str())?;
     }
-    let mut input = Prompting {
+    let input = Prompting {
         reader: rt.reader(),
         errors: rt.stderr(),
         asks: rt.stdin().is_terminal() && rt.stderr().is_terminal(),
@@ -72,8 +72,8 @@ fn answer(rt: &HostRuntime) -> io::Result<Ending> {
         alloc,
         words.as_slice(),
         &mut Disk::new(rt),
-        &mut input,
-        &mut rt.stdout(),
-        &mut rt.stderr(),
+        &mut Counted::new(input),
+        &mut Over::new(rt.stdout()),
+        &mut Over::new(rt.stderr()),
     ))
 }

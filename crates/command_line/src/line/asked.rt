@@ -1,14 +1,15 @@
 //! What a command line asks for.
-ghost use Rattle.std.specs.Io.KnownBytes.{Appends};
-ghost use Rattle.std.specs.Prelude.{◌≡◌, ◌⊎◌, OnOk, true, false};
+ghost use Rattle.std.specs.Prelude.{◌≡◌, ◌⊎◌, true, false};
+ghost use Rattle.rv_listing.specs.Sinks.{IsCounted};
+ghost use Rattle.commands.specs.Streams.{IsTold, stream};
 ghost use Rattle.commands.specs.Texts.{stop_text};
 ghost use Rattle.commands.specs.declared.stop.Stop.TheVariants as stop;
 ghost use Rattle.command_line.specs.Asked.{is_request, status_of_line};
 ghost use Rattle.command_line.specs.declared.line.asked.LineError.TheVariants.{NoMemory};
 
-use commands::{Ending, MakePaths, Status, Stop};
-use std::alloc::AllocError;
-use std::io::Write;
+use commands::{MakePaths, Sink, Status, Stop, Stream};
+use rv_listing::{print, put};
+use std::alloc::{AllocError, Global};
 
 /// What a command line asks for: a subcommand with its paths, whether more of why it stops is told, and, of a run, whether the
 /// registers that it left are.
@@ -61,30 +62,34 @@ impl From<AllocError> for LineError {
 }
 
 impl LineError {
-    /// Answers a request for help or the version on standard output, and else tells on standard error what is wrong.
-    pub fn tell<O: Write, E: Write>(&self, output: &mut O, errors: &mut E) -> Ending
-        ensures told { is_request self.now ≡ false → result.status ≡ status_of_line self.now }
-        ensures answered { is_request self.now ≡ true
-            → (result.status ≡ Status.Done) ⊎ (result.status ≡ Status.File) }
-        ensures memory { self.now ≡ NoMemory → OnOk result.told
-            (Appends (E.contents errors.old) (E.contents errors.new) (stop_text stop.Memory)) }
+    /// Answers a request for help or the version on standard output, and else tells on standard error what is wrong. It answers
+    /// the status.
+    pub fn tell<O: Stream, E: Sink>(&self, alloc: Global, output: &mut O, errors: &mut E) -> Status
+        ensures told { is_request self.now ≡ false
+            → (result ≡ status_of_line self.now) ⊎ (result ≡ Status.Memory) }
+        ensures answered { is_request self.now ≡ true → (result ≡ Status.Done)
+            ⊎ (((result ≡ Status.File) × IsCounted (O.failures output.old) (O.failures output.new))
+            ⊎ (result ≡ Status.Memory)) }
+        ensures quiet { self.now ≡ NoMemory →
+            stream (O.contents output.new) (O.failures output.new)
+            ≡ stream (O.contents output.old) (O.failures output.old) }
+        ensures memory { self.now ≡ NoMemory →
+            IsTold (stream (E.contents errors.old) (E.failures errors.old))
+            (stream (E.contents errors.new) (E.failures errors.new)) (stop_text stop.Memory) }
     {
-        match self {
-            LineError::Usage(error) if !error.use_stderr() => match write!(output, "{error}") {
-                Ok(()) => Ending {
-                    status: Status::Done,
-                    told: Ok(()),
-                },
-                Err(_) => Ending {
-                    status: Status::File,
-                    told: Ok(()),
-                },
+        let LineError::Usage(error) = self else {
+            return Stop::Memory.tell(errors);
+        };
+        match format!(in alloc; "{error}") {
+            Ok(text) if error.use_stderr() => {
+                let _told = put(errors, text.as_bytes());
+                Status::Usage
+            }
+            Ok(text) => match print(output, text.as_bytes()) {
+                Ok(()) => Status::Done,
+                Err(_) => Status::File,
             },
-            LineError::Usage(error) => Ending {
-                status: Status::Usage,
-                told: write!(errors, "{error}"),
-            },
-            LineError::NoMemory => Stop::Memory.tell(errors),
+            Err(_) => Stop::Memory.tell(errors),
         }
     }
 }

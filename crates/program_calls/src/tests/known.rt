@@ -3,7 +3,8 @@ use crate::tests::assertions::given;
 use crate::tests::performances::{performed, performed_words};
 use crate::tests::system::{IMAGE, JOB};
 use commands::{
-    Ending, MakePaths, Memory, Status, Store, check_memory, make_memory, run_memory, try_memory,
+    Counted, MakePaths, Memory, Over, Status, Store, check_memory, make_memory, mon_job_within,
+    mon_memory, run_memory, try_memory,
 };
 use hex::decode;
 use std::alloc::Global;
@@ -40,28 +41,27 @@ fn files(rt: impl Abort + Copy, alloc: Global) -> Memory {
 }
 
 /// Asserts how a subcommand ended, and what it printed.
-fn expect(rt: impl Abort + Copy, ending: Ending, output: &[u8], status: Status, text: &str) {
-    assert!(rt; ending.status == status);
-    assert!(rt; output == text.as_bytes());
+fn expect(rt: impl Abort + Copy, came: Status, output: Over<Vec<u8>>, status: Status, text: &str) {
+    assert!(rt; came == status);
+    assert!(rt; output.into_inner().as_slice() == text.as_bytes());
+}
+
+/// A stream that keeps what it takes.
+fn kept(alloc: Global) -> Over<Vec<u8>> {
+    Over::new(Vec::new(alloc))
 }
 
 #[test]
 fn checks_runs_and_tries_files_in_memory(rt: HostRuntime) {
     let alloc = rt.alloc();
     let mut memory = files(rt, alloc);
-    let (mut one, mut two, mut three) = (Vec::new(alloc), Vec::new(alloc), Vec::new(alloc));
-    let mut errors = Vec::new(alloc);
-    let ending = check_memory(alloc, "one.elf", &mut memory, &mut one, &mut errors);
-    expect(
-        rt,
-        ending,
-        &one,
-        Status::Done,
-        "accepted: bound 1 + 0 * x0\n",
-    );
-    let ending = run_memory(alloc, "one.toml", false, &mut memory, &mut two, &mut errors);
-    expect(rt, ending, &two, Status::Done, "ended: 1 steps\n");
-    let ending = try_memory(
+    let (mut one, mut two, mut three) = (kept(alloc), kept(alloc), kept(alloc));
+    let mut errors = kept(alloc);
+    let came = check_memory(alloc, "one.elf", &mut memory, &mut one, &mut errors);
+    expect(rt, came, one, Status::Done, "accepted: bound 1 + 0 * x0\n");
+    let came = run_memory(alloc, "one.toml", false, &mut memory, &mut two, &mut errors);
+    expect(rt, came, two, Status::Done, "ended: 1 steps\n");
+    let came = try_memory(
         alloc,
         "one.toml",
         true,
@@ -69,29 +69,41 @@ fn checks_runs_and_tries_files_in_memory(rt: HostRuntime) {
         &mut three,
         &mut errors,
     );
-    expect(rt, ending, &three, Status::Done, SHOWN);
-    assert!(rt; errors.is_empty());
+    expect(rt, came, three, Status::Done, SHOWN);
+    assert!(rt; errors.into_inner().is_empty());
+}
+
+#[test]
+fn watches_a_run_of_files_in_memory(rt: HostRuntime) {
+    let alloc = rt.alloc();
+    let mut memory = files(rt, alloc);
+    let (mut output, mut errors) = (kept(alloc), kept(alloc));
+    let mut input = Counted::new(b"c\nq\n".as_slice());
+    let (out, err) = (&mut output, &mut errors);
+    let came = mon_memory(alloc, "one.toml", &mut memory, &mut input, out, err);
+    expect(rt, came, output, Status::Done, "ended step 1\n");
+    assert!(rt; errors.into_inner().is_empty());
 }
 
 #[test]
 fn makes_no_certificate_of_an_image_that_has_one(rt: HostRuntime) {
     let alloc = rt.alloc();
     let mut memory = files(rt, alloc);
-    let (mut output, mut errors) = (Vec::new(alloc), Vec::new(alloc));
+    let (mut output, mut errors) = (kept(alloc), kept(alloc));
     let paths = MakePaths {
         image: "one.elf",
         job: "one.toml",
         out: "two.elf",
     };
-    let ending = make_memory(alloc, paths, &mut memory, &mut output, &mut errors);
-    expect(rt, ending, &output, Status::Refused, "");
+    let came = make_memory(alloc, paths, &mut memory, &mut output, &mut errors);
+    expect(rt, came, output, Status::Refused, "");
     assert!(rt; memory.get("two.elf").is_none());
     assert!(rt; memory.get("one.toml") == Some(JOB.as_bytes()));
 }
 
 /// Asserts that a line is refused so.
 fn refuses(rt: impl Abort + Copy, alloc: Global, memory: &mut Memory, line: &str, text: &str) {
-    let came = performed(rt, alloc, line, memory, &mut b"".as_slice());
+    let came = performed(rt, alloc, line, memory, b"".as_slice());
     assert!(rt; came.output.is_empty());
     assert!(rt; came.errors.as_slice() == text.as_bytes());
 }
@@ -121,6 +133,27 @@ fn tells_the_first_place_whose_file_is_not_read(rt: HostRuntime) {
 }
 
 #[test]
+fn tells_no_more_of_an_input_that_is_read_too_often(rt: HostRuntime) {
+    let alloc = rt.alloc();
+    let mut memory = files(rt, alloc);
+    let (mut output, mut errors) = (kept(alloc), kept(alloc));
+    let mut input = Counted::new(b"c\n".as_slice());
+    let (out, err) = (&mut output, &mut errors);
+    let came = mon_job_within(
+        alloc,
+        "one.toml",
+        true,
+        &mut memory,
+        &mut input,
+        out,
+        err,
+        1,
+    );
+    assert!(rt; came == Status::File);
+    assert!(rt; errors.into_inner().as_slice() == b"file: -\n".as_slice());
+}
+
+#[test]
 fn tells_control_characters_by_their_codes(rt: HostRuntime) {
     let alloc = rt.alloc();
     let mut memory = files(rt, alloc);
@@ -143,8 +176,8 @@ fn writes_no_file_that_is_refused(rt: HostRuntime) {
 /// Asserts that two lines print the same, and that it is something.
 fn alike(rt: impl Abort + Copy, alloc: Global, one: &str, other: &str) {
     let mut memory = Memory::new(alloc);
-    let came = performed(rt, alloc, one, &mut memory, &mut b"".as_slice());
-    let again = performed(rt, alloc, other, &mut memory, &mut b"".as_slice());
+    let came = performed(rt, alloc, one, &mut memory, b"".as_slice());
+    let again = performed(rt, alloc, other, &mut memory, b"".as_slice());
     assert!(rt; came.status == Status::Done && again.status == Status::Done);
     assert!(rt; came.output.as_slice() == again.output.as_slice() && !came.output.is_empty());
 }
@@ -167,7 +200,7 @@ fn tells_help_of_a_subcommand_in_two_ways(rt: HostRuntime) {
 fn touches_no_file_where_the_words_are_refused(rt: HostRuntime) {
     let mut memory = Memory::new(rt.alloc());
     let words = "rvvbox check one two";
-    let came = performed(rt, rt.alloc(), words, &mut memory, &mut b"".as_slice());
+    let came = performed(rt, rt.alloc(), words, &mut memory, b"".as_slice());
     assert!(rt; came.status == Status::Usage);
     assert!(rt; memory.get("one").is_none());
 }
@@ -175,7 +208,7 @@ fn touches_no_file_where_the_words_are_refused(rt: HostRuntime) {
 /// Asserts that words are refused, and that what is told of them shows a text, and no control character but ends of lines.
 fn shows(rt: impl Abort + Copy, alloc: Global, words: &[&str], shown: &str) {
     let mut memory = Memory::new(alloc);
-    let came = performed_words(alloc, words, &mut memory, &mut b"".as_slice());
+    let came = performed_words(alloc, words, &mut memory, b"".as_slice());
     assert!(rt; came.status == Status::Usage);
     let errors = given!(rt; str::from_utf8(came.errors.as_slice()));
     assert!(rt; errors.contains(shown));

@@ -1,9 +1,8 @@
 //! What comes of words of a command line.
 use crate::tests::assertions::given;
 use command_line::perform;
-use commands::{Status, Store};
+use commands::{Counted, Over, Status, Store};
 use std::alloc::Global;
-use std::io::Read;
 use std::process::Abort;
 
 /// How a performance ended, and what standard output and standard error have.
@@ -24,29 +23,30 @@ fn words_of<'a>(rt: impl Abort + Copy, alloc: Global, line: &'a str) -> Vec<&'a 
 }
 
 /// What comes of the words of a line over a store and an input.
-pub(crate) fn performed<S: Store, I: Read>(
+pub(crate) fn performed<S: Store>(
     rt: impl Abort + Copy,
     alloc: Global,
     line: &str,
     store: &mut S,
-    input: &mut I,
+    input: &[u8],
 ) -> Outcome {
     let words = words_of(rt, alloc, line);
     performed_words(alloc, &words, store, input)
 }
 
 /// What comes of words over a store and an input.
-pub(crate) fn performed_words<'a, S: Store, I: Read>(
+pub(crate) fn performed_words<'a, S: Store>(
     alloc: Global,
     words: &'a [&'a str],
     store: &mut S,
-    input: &mut I,
+    input: &[u8],
 ) -> Outcome {
-    let (mut output, mut errors) = (Vec::new(alloc), Vec::new(alloc));
-    let ending = perform(alloc, words, store, input, &mut output, &mut errors);
+    let mut input = Counted::new(input);
+    let (mut output, mut errors) = (Over::new(Vec::new(alloc)), Over::new(Vec::new(alloc)));
+    let status = perform(alloc, words, store, &mut input, &mut output, &mut errors);
     Outcome {
-        status: ending.status,
-        output,
-        errors,
+        status,
+        output: output.into_inner(),
+        errors: errors.into_inner(),
     }
 }

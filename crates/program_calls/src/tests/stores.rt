@@ -1,7 +1,7 @@
 //! A store without memory, and words that the system does not give.
 use crate::tests::performances::performed;
 use command_line::end_without_words;
-use commands::{Status, Store, StoreError};
+use commands::{Over, Status, Store, StoreError};
 use std::alloc::Global;
 use std::io;
 use std::io::ErrorKind;
@@ -33,16 +33,16 @@ impl Store for Poor {
 #[test]
 fn tells_no_more_where_memory_runs_out(rt: HostRuntime) {
     let words = "rvvbox check --explain any";
-    let came = performed(rt, rt.alloc(), words, &mut Poor, &mut b"".as_slice());
+    let came = performed(rt, rt.alloc(), words, &mut Poor, b"".as_slice());
     assert!(rt; came.errors.as_slice() == b"out of memory\n".as_slice());
 }
 
 /// Asserts how the program ends where the system gives it no words.
 fn expect_end(rt: impl Abort + Copy, alloc: Global, kind: ErrorKind, status: Status, text: &str) {
-    let mut errors = Vec::new(alloc);
-    let ending = end_without_words(io::Error::from(kind), &mut errors);
-    assert!(rt; ending.status == status);
-    assert!(rt; errors.as_slice() == text.as_bytes());
+    let mut errors = Over::new(Vec::new(alloc));
+    let came = end_without_words(io::Error::from(kind), &mut errors);
+    assert!(rt; came == status);
+    assert!(rt; errors.into_inner().as_slice() == text.as_bytes());
 }
 
 #[test]

@@ -1,7 +1,7 @@
 //! The program on files of the system.
 use crate::tests::assertions::given;
 use crate::tests::performances::performed;
-use commands::{Disk, Status, Store, mon_job_within};
+use commands::{Counted, Disk, Over, Status, Store, mon_job_within};
 use hex::decode;
 use std::alloc::{AllocError, Global};
 use std::fs;
@@ -21,7 +21,7 @@ pub(crate) const JOB: &str = "image = \"one.elf\"\nvlen = 128\nagnostic = \"keep
 
 /// Asserts what comes of words on an input of one line.
 fn expect<S: Store>(rt: impl Abort + Copy, alloc: Global, store: &mut S, words: &str, text: &str) {
-    let came = performed(rt, alloc, words, store, &mut b"c\n".as_slice());
+    let came = performed(rt, alloc, words, store, b"c\n".as_slice());
     assert!(rt; came.status == Status::Done);
     assert!(rt; came.output.as_slice() == text.as_bytes());
     assert!(rt; came.errors.is_empty());
@@ -29,13 +29,13 @@ fn expect<S: Store>(rt: impl Abort + Copy, alloc: Global, store: &mut S, words: 
 
 /// Asserts the same of `mon` with two reads of its input at most.
 fn expect_monitor<S: Store>(rt: impl Abort + Copy, alloc: Global, store: &mut S) {
-    let (mut output, mut errors) = (Vec::new(alloc), Vec::new(alloc));
-    let mut input = b"c\n".as_slice();
+    let (mut output, mut errors) = (Over::new(Vec::new(alloc)), Over::new(Vec::new(alloc)));
+    let mut input = Counted::new(b"c\n".as_slice());
     let (out, err) = (&mut output, &mut errors);
-    let ending = mon_job_within(alloc, "one.toml", false, store, &mut input, out, err, 2);
-    assert!(rt; ending.status == Status::Done);
-    assert!(rt; output.as_slice() == b"ended step 1\n".as_slice());
-    assert!(rt; errors.is_empty());
+    let came = mon_job_within(alloc, "one.toml", false, store, &mut input, out, err, 2);
+    assert!(rt; came == Status::Done);
+    assert!(rt; output.into_inner().as_slice() == b"ended step 1\n".as_slice());
+    assert!(rt; errors.into_inner().is_empty());
 }
 
 #[test]
@@ -61,7 +61,7 @@ fn performs_on_files_of_the_system(rt: HostRuntime) {
 fn says_what_the_system_says(rt: HostRuntime) {
     let mut disk = Disk::new(&rt);
     let words = "rvvbox check --explain none.elf";
-    let came = performed(rt, rt.alloc(), words, &mut disk, &mut b"".as_slice());
+    let came = performed(rt, rt.alloc(), words, &mut disk, b"".as_slice());
     let lines = "file: none.elf\n  the system says: entity not found\n";
     assert!(rt; came.output.is_empty());
     assert!(rt; came.errors.as_slice() == lines.as_bytes());

@@ -7,14 +7,14 @@ use Rattle.command_line.proofs.program.perform.Goals as goal
 
 pub returns-in-Err-clause-status : goal.returns-in-Err-clause-status
 returns-in-Err-clause-status g c =
-    told_for (fault_of app (map (λ w. w.now) c.args.words.now)) c.in-Err.error c.tell.result.status c.in-Err.ensures.refused c.tell.ensures.told c.tell.ensures.answered
+    told_for (fault_of app (map (λ w. w.now) c.args.words.now)) c.in-Err.error _ c.tell.result c.in-Err.ensures.refused c.tell.ensures.told c.tell.ensures.answered
 
 pub returns-in-Err-clause-asked : goal.returns-in-Err-clause-asked
 returns-in-Err-clause-asked g c =
-    asked_nothing _ (map (λ w. w.now) c.args.words.now) c.in-Err.error _ _ _ _ _ c.tell.result refl c.in-Err.ensures.refused c.tell.ensures.told c.tell.ensures.memory
+    asked_nothing _ (map (λ w. w.now) c.args.words.now) c.in-Err.error _ _ _ _ _ c.tell.result refl refl c.in-Err.ensures.refused c.tell.ensures.told c.tell.ensures.quiet c.tell.ensures.memory
 
 pub returns-in-Ok-clause-status : goal.returns-in-Ok-clause-status
-returns-in-Ok-clause-status g c = fits_any (map (λ w. w.now) c.args.words.now) c.in-Ok.asked c.carry_out.result.status c.in-Ok.ensures.line
+returns-in-Ok-clause-status g c = fits_any (map (λ w. w.now) c.args.words.now) c.in-Ok.asked _ c.carry_out.result c.in-Ok.ensures.line
 
 pub returns-in-Ok-clause-asked : goal.returns-in-Ok-clause-asked
 returns-in-Ok-clause-asked g c =

@@ -1,7 +1,8 @@
 use Rattle.std.proofs.Common.{rules}
-use Rattle.commands.proofs.CommandLemmas.{handed_on, no_table}
+use Rattle.toml.specs.View.{table_view}
+use Rattle.commands.proofs.CommandLemmas.{table_parsed}
 use Rattle.commands.proofs.files.table_in.Goals as goal
 
-pub returns-in_err-parse-in-Ok : goal.returns-in_err-parse-in-Ok
-returns-in_err-parse-in-Ok c =
-    handed_on _ _ _ _ c.from_residual.ensures.1 (no_table c.args.bytes.now _ _ (search rules) (search rules) c.in_err-parse-in-Ok.ensures.refused)
+pub returns-in-Ok : goal.returns-in-Ok
+returns-in-Ok c =
+    table_parsed table_view c.args.bytes.now _ c.parse.result (search rules) (search rules) c.parse.ensures.table c.parse.ensures.refused

@@ -2,7 +2,7 @@ use Rattle.commands.proofs.Corollaries.{check_done, check_kept}
 use Rattle.commands.proofs.memory.check_memory.Goals as goal
 
 pub returns-clause-done : goal.returns-clause-done
-returns-clause-done c = check_done _ _ _ _ _ _ _ _ c.check_image.ensures
+returns-clause-done c = check_done _ _ _ _ _ _ _ _ _ _ c.check_image.ensures
 
 pub returns-clause-kept : goal.returns-clause-kept
-returns-clause-kept c = check_kept _ _ _ _ _ _ _ _ c.check_image.ensures
+returns-clause-kept c = check_kept _ _ _ _ _ _ _ _ _ _ c.check_image.ensures

@@ -1,8 +1,9 @@
-use Rattle.std.proofs.Common.{inl, inr, MatchResult, Option, subst}
+use Rattle.std.proofs.Common.{inl, inr, refl, Err, MatchResult, Option, subst}
 use Rattle.toml.specs.View.{table_view}
+use Rattle.commands.specs.Ending.{plain}
 use Rattle.commands.specs.Files.{files_of}
 use Rattle.commands.specs.Mons.{Mons, StopsMon}
-use Rattle.commands.specs.Talks.{exchange}
+use Rattle.commands.specs.Streams.{exchange, source, stream}
 use Rattle.commands.specs.Written.{Gains, Held}
 use Rattle.commands.proofs.CommandLemmas.{ends_as, ends_by}
 use Rattle.commands.specs.WrittenLemmas.{nothing}
@@ -11,11 +12,12 @@ use Rattle.commands.proofs.mons.mon_job_within.Goals as goal
 pub returns-in-Ok : goal.returns-in-Ok
 returns-in-Ok g c =
     let has = g.S.Store.held c.mon_table-done.new.store in
-    let e = (exchange (g.I.Read.remaining c.args.input.now) (g.I.Read.remaining c.mon_table-done.new.input) (g.O.Write.contents c.args.output.now) (g.O.Write.contents c.mon_table-done.new.output)) in
-    let came = subst (λ (h : Option Held). MatchResult c.mon_table-done.result
-    (Mons (files_of h) (table_view c.in-Ok.table) e h has) (StopsMon (files_of h) e (Gains h has) (table_view c.in-Ok.table)))
+    let e = (exchange (source (g.I.Source.remaining c.args.input.now) (g.I.Source.reads c.args.input.now) (g.I.Source.failures c.args.input.now)) (source (g.I.Source.remaining c.mon_table-done.new.input) (g.I.Source.reads c.mon_table-done.new.input) (g.I.Source.failures c.mon_table-done.new.input)) (stream (g.O.Sink.contents c.args.output.now) (g.O.Sink.failures c.args.output.now)) (stream (g.O.Sink.contents c.mon_table-done.new.output) (g.O.Sink.failures c.mon_table-done.new.output))) in
+    let came = subst (λ (h : Option Held). MatchResult (plain c.mon_table-done.result)
+    (Mons (files_of h) (table_view c.in-Ok.file.table) e h has) (StopsMon c.args.reads (files_of h) e (Gains h has) (table_view c.in-Ok.file.table)))
     c.in-Ok.ensures.files c.mon_table-done.ensures in
-    ends_by c.mon_table-done.result _ _ c.ended.ensures.ends came (λ s it. (_, c.in-Ok.ensures.table, it)) (λ reason it. inr (_, c.in-Ok.ensures.table, it))
+    ends_by c.mon_table-done.result _ _ c.ended.ensures.status c.ended.ensures.told came (λ s it. (table_view c.in-Ok.file.table, c.in-Ok.ensures.table, it)) (λ reason it. inr (table_view c.in-Ok.file.table, c.in-Ok.ensures.table, it))
 
-pub returns : goal.returns
-returns g c = ends_as _ c.ended-in-Err.ensures.ends (inl (c.in-Err.ensures.table, nothing _ _ c.in-Err.ensures.files))
+pub returns-in-Err : goal.returns-in-Err
+returns-in-Err g c =
+    ends_as (Err c.in-Err.halt) c.ended-in-Err.ensures.status c.ended-in-Err.ensures.told (inl (c.in-Err.ensures.table, (nothing _ _ c.in-Err.ensures.files, (refl, refl))))

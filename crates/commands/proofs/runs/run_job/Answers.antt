@@ -1,8 +1,10 @@
-use Rattle.std.proofs.Common.{inl, inr, MatchResult, Option, subst}
+use Rattle.std.proofs.Common.{inl, inr, refl, Err, MatchResult, Option, subst}
 use Rattle.toml.specs.View.{table_view}
+use Rattle.commands.specs.Ending.{plain}
 use Rattle.commands.specs.Files.{files_of}
 use Rattle.commands.specs.Runs.{Runs, StopsRun}
-use Rattle.commands.specs.Written.{Gains, Held}
+use Rattle.commands.specs.Streams.{change, stream}
+use Rattle.commands.specs.Written.{Held}
 use Rattle.commands.proofs.CommandLemmas.{ends_as, ends_by}
 use Rattle.commands.specs.WrittenLemmas.{nothing}
 use Rattle.commands.proofs.runs.run_job.Goals as goal
@@ -10,12 +12,14 @@ use Rattle.commands.proofs.runs.run_job.Goals as goal
 pub returns-in-Ok : goal.returns-in-Ok
 returns-in-Ok g c =
     let has = g.S.Store.held c.run_table-done.new.store in
-    let out = g.O.Write.contents in
-    let came = subst (λ (h : Option Held). MatchResult c.run_table-done.result
-    (Runs (files_of h) c.args.registers (table_view c.in-Ok.table) (out c.args.output.now) (out c.run_table-done.new.output) h has)
-    (StopsRun (files_of h) (Gains h has) (table_view c.in-Ok.table)))
+    let old = (stream (g.O.Sink.contents c.args.output.now) (g.O.Sink.failures c.args.output.now)) in
+    let new = (stream (g.O.Sink.contents c.run_table-done.new.output) (g.O.Sink.failures c.run_table-done.new.output)) in
+    let came = subst (λ (h : Option Held). MatchResult (plain c.run_table-done.result)
+    (Runs (files_of h) c.args.registers (table_view c.in-Ok.file.table) (change h has old new))
+    (StopsRun (files_of h) c.args.registers (change h has old new) (table_view c.in-Ok.file.table)))
     c.in-Ok.ensures.files c.run_table-done.ensures in
-    ends_by c.run_table-done.result _ _ c.ended.ensures.ends came (λ s it. (_, c.in-Ok.ensures.table, it)) (λ reason it. inr (_, c.in-Ok.ensures.table, it))
+    ends_by c.run_table-done.result _ _ c.ended.ensures.status c.ended.ensures.told came (λ s it. (table_view c.in-Ok.file.table, c.in-Ok.ensures.table, it)) (λ reason it. inr (table_view c.in-Ok.file.table, c.in-Ok.ensures.table, it))
 
-pub returns : goal.returns
-returns g c = ends_as _ c.ended-in-Err.ensures.ends (inl (c.in-Err.ensures.table, nothing _ _ c.in-Err.ensures.files))
+pub returns-in-Err : goal.returns-in-Err
+returns-in-Err g c =
+    ends_as (Err c.in-Err.halt) c.ended-in-Err.ensures.status c.ended-in-Err.ensures.told (inl (c.in-Err.ensures.table, (nothing _ _ c.in-Err.ensures.files, refl)))

@@ -1,24 +1,25 @@
-use Rattle.std.proofs.Common.{rules, ◌≡◌, Option, Some, inl, inr, subst}
+use Rattle.std.proofs.Common.{◌≡◌, Option, Some, inl, inr, subst}
 use Rattle.job_file.specs.Needs.{run_job_in, run_job_lent}
 use Rattle.toml.specs.View.{table_view}
 use Rattle.commands.specs.Accepted.{accepted_of}
 use Rattle.commands.specs.Files.{IsUnpassed, files_of}
+use Rattle.commands.specs.Halt.{stop_of}
 use Rattle.commands.specs.Written.{Held}
-use Rattle.commands.proofs.CommandLemmas.{handed_on, unasked, want_ok}
+use Rattle.commands.proofs.CommandLemmas.{asked_for, handed_on, unasked, want_ok}
 use Rattle.commands.proofs.starts.started.Goals as goal
 
 pub returns-in_err-job-clause-start : goal.returns-in_err-job-clause-start
 returns-in_err-job-clause-start g c =
-    handed_on _ _ _ _ c.from_residual.ensures.1 (inl (unasked run_job_lent _ _ c.ok_or.result _ c.run_job_in.ensures c.ok_or.ensures.value (search rules), tt))
+    handed_on _ _ _ _ c.from_residual.ensures.1 (inl (unasked run_job_lent _ _ _ c.run_job_in.ensures c.in_err-job.ensures, tt))
 
 pub returns-in_err-args-clause-start : goal.returns-in_err-args-clause-start
 returns-in_err-args-clause-start g c =
-    let asked : run_job_in (table_view c.args.table.now) ≡ Some (run_job_lent c.in_ok-job.job) = search rules in
-    let unpassed = subst (λ (h : Option Held). IsUnpassed (files_of h) (run_job_lent c.in_ok-job.job).params c.in_err-args.field-0.0) c.in_ok-image.ensures.files c.in_err-args.ensures.passed in
+    let asked : run_job_in (table_view c.args.table.now) ≡ Some (run_job_lent c.in_ok-job.job) = asked_for run_job_lent _ _ _ c.run_job_in.ensures c.in_ok-job.ensures in
+    let unpassed = subst (λ (h : Option Held). IsUnpassed (files_of h) (run_job_lent c.in_ok-job.job).params (stop_of c.in_err-args.field-0.0)) c.in_ok-image.ensures.files c.in_err-args.ensures.passed in
     let passes = want_ok (accepted_of (Some c.in_ok-job.job.vlen) c.in_ok-image.image) c.in_ok-accepted.accepted c.in_ok-accepted.ensures.answer in
     handed_on _ _ _ _ c.from_residual-in_err-args.ensures.1 (inr (run_job_lent c.in_ok-job.job, asked, inr (c.in_ok-image.image, c.in_ok-image.ensures.image, inr (c.in_ok-accepted.accepted, passes, inl (unpassed, tt)))))
 
 pub returns-in_err-accepted-clause-start : goal.returns-in_err-accepted-clause-start
 returns-in_err-accepted-clause-start g c =
-    let asked : run_job_in (table_view c.args.table.now) ≡ Some (run_job_lent c.in_ok-job.job) = search rules in
+    let asked : run_job_in (table_view c.args.table.now) ≡ Some (run_job_lent c.in_ok-job.job) = asked_for run_job_lent _ _ _ c.run_job_in.ensures c.in_ok-job.ensures in
     handed_on _ _ _ _ c.from_residual-in_err-accepted.ensures.1 (inr (run_job_lent c.in_ok-job.job, asked, inr (c.in_ok-image.image, c.in_ok-image.ensures.image, inl ((c.in_err-accepted.ensures.certificate, c.in_err-accepted.ensures.answer), tt))))

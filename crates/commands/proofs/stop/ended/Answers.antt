@@ -1,23 +1,11 @@
-use Rattle.commands.specs.Ending.{text_after}
-use Rattle.commands.specs.More.{more_if}
-use Rattle.commands.proofs.CommandLemmas.{itself, no_more, told_fits, told_whole, untold}
+-- What was told is the reason's line, and the text of more where there is one.
+use Rattle.std.proofs.Common.{[], option_map, string_bytes, unwrap_or}
+use Rattle.commands.proofs.CommandLemmas.{more_is, told_on}
 use Rattle.commands.proofs.stop.ended.Goals as goal
 
-pub returns-clause-ends : goal.returns-clause-ends
-returns-clause-ends g c =
-    let tells = c.is_told-tells.result in
-    let m = c.args.why.now.more in
-    record {
-      done = c.args.done;
-      comes = itself c.args.done;
-      status = c.told.ensures.status;
-      more = more_if tells m;
-      unasked = λ off. untold tells m (c.is_told-tells.ensures.silent (no_more c.args.explain c.args.done off));
-      silent = λ off. untold tells m (c.is_told-tells.ensures.silent off);
-      fits = told_fits tells m c.args.done c.is_told-tells.ensures.fits;
-      told = c.told.ensures.told;
-    }
-
-pub returns-clause-whole : goal.returns-clause-whole
-returns-clause-whole g c on fits =
-    told_whole _ _ (text_after c.args.done) c.is_told-tells.result c.args.why.now.more c.told.result.told (c.is_told-tells.ensures.whole on fits) c.told.ensures.told
+pub returns-clause-told : goal.returns-clause-told
+returns-clause-told g c = (
+  unwrap_or (option_map (λ text. string_bytes text) c.more_of-more.result) [],
+  more_is (λ text. string_bytes text) c.args.explain c.args.done c.more_of-more.result c.more_of-more.ensures,
+  rw (← c.bytes_in.ensures) (told_on _ _ _ _ _ _ c.tell_all-told.ensures),
+)

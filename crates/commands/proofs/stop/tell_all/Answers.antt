@@ -1,7 +1,0 @@
--- The reason's line, and then the more.
-use Rattle.std.proofs.Common.{arith}
-use Rattle.std.proofs.lemmas.Grind.{common_steps}
-use Rattle.commands.proofs.stop.tell_all.Goals as goal
-
-pub returns : goal.returns
-returns g c = grind (arith, common_steps)

@@ -1,0 +1,83 @@
+-- Why a subcommand stops, and what more is told of it.
+use Rattle.std.specs.Prelude.{◌++◌, codes, ℕ, List, [], Some, None, Result, Ok, Err, string_bytes}
+use Rattle.std.specs.Fmt.{decimal}
+use Rattle.block_checker.specs.Refusals as check_words
+use Rattle.cert_maker.specs.Make as make_words
+use Rattle.cert_note.specs.Refusals as certificate_words
+use Rattle.check_reasons.specs.Check.{check_text}
+use Rattle.elf_image.specs.Error as image_words
+use Rattle.explanations.specs.Certificate.{certificate_text}
+use Rattle.explanations.specs.Image.{image_text}
+use Rattle.explanations.specs.Make.{make_text}
+use Rattle.explanations.specs.Refusal as refused
+use Rattle.job_file.specs.declared.values.JobError.TheVariants as job_error
+use Rattle.job_reasons.specs.Job.{job_text}
+use Rattle.job_reasons.specs.declared.job.JobReason.{JobReason}
+use Rattle.job_reasons.specs.declared.job.JobReason.TheVariants as job_reason
+use Rattle.open_reasons.specs.Open.{open_text}
+use Rattle.region_mem.specs.declared.layout.TheConstants.{MAX_BUFFER_SIZE}
+use Rattle.sandbox_run.specs.Errors as open_words
+use Rattle.commands.specs.Words.{Halt, JobError, Stop}
+use Rattle.commands.specs.declared.halt.Halt.TheVariants as halt
+use Rattle.commands.specs.declared.stop.Stop.TheVariants as stop
+
+-- ---- the reason to stop
+
+-- the error of a job that is refused for a reason
+abbrev pub error_of : JobReason → JobError
+error_of (job_reason.NotUtf8 byte) = job_error.NotToml
+error_of (job_reason.NotToml line column byte) = job_error.NotToml
+error_of job_reason.Broken = job_error.BadKey
+error_of (job_reason.Missing table key command) = job_error.BadKey
+error_of (job_reason.Breach breach) = job_error.BadKey
+
+-- without what more is told of it
+abbrev pub stop_of : Halt → Stop
+stop_of (halt.Job reason) = stop.Job (error_of reason)
+stop_of (halt.UntoldJob error) = stop.Job error
+stop_of (halt.Parameters reason) = stop.Job job_error.BadKey
+stop_of halt.LargeFile = stop.Job job_error.BadKey
+stop_of (halt.File path line) = stop.File path
+stop_of (halt.Image told) = stop.Image told.error
+stop_of (halt.Attach told) = stop.Image told.error
+stop_of halt.NoCertificate = stop.NoCertificate
+stop_of (halt.Certificate told) = stop.Certificate told.error
+stop_of (halt.Check error reason) = stop.Check error
+stop_of (halt.Make error reason) = stop.Make error
+stop_of (halt.Open told) = stop.Open told.error
+stop_of halt.Memory = stop.Memory
+stop_of halt.Output = stop.Output
+
+-- an answer, of which the reason to stop stands alone
+abbrev pub bare : {A : Type 0} → Result A Halt → Result A Stop
+bare (Ok a) = Ok a
+bare (Err why) = Err (stop_of why)
+
+-- ---- what more is told
+
+-- of the very reason to stop: nothing where memory ran out, or standard output took no text
+abbrev pub halt_text : Halt → List ℕ
+halt_text (halt.Job reason) = job_text reason
+halt_text (halt.UntoldJob error) = []
+halt_text (halt.Parameters reason) = make_text reason
+halt_text halt.LargeFile = codes "  wanted: for each buffer a file of at most "
+    ++ (decimal MAX_BUFFER_SIZE ++ codes " bytes\n")
+halt_text (halt.File path None) = []
+halt_text (halt.File path (Some line)) = string_bytes line
+halt_text (halt.Image told) =
+    refused.told (image_words.error_text told.error) (image_text told.reason)
+halt_text (halt.Attach told) =
+    refused.told (image_words.error_text told.error) (make_text told.reason)
+halt_text halt.NoCertificate =
+    codes "  wanted: a certificate in a note of the image, as `make` writes it\n"
+halt_text (halt.Certificate told) =
+    refused.told (certificate_words.refusal_text told.error) (certificate_text told.reason)
+halt_text (halt.Check error None) = []
+halt_text (halt.Check error (Some reason)) =
+    refused.told (check_words.error_text error) (check_text reason)
+halt_text (halt.Make error None) = []
+halt_text (halt.Make error (Some reason)) =
+    refused.told (make_words.error_text error) (make_text reason)
+halt_text (halt.Open told) = refused.told (open_words.error_text told.error) (open_text told.reason)
+halt_text halt.Memory = []
+halt_text halt.Output = []
