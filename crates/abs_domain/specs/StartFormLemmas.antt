@@ -169,11 +169,6 @@ pub terms_room : (constant : ℕ) (ts : List EqualityTerm) (k : ℕ) → IsForm 
 terms_room constant ts k is l =
     omega (arith, length-map ts form_term, length-map (take k ts) form_term, is.has_room, l, length-take-le k ts (omega (arith, l)))
 
--- one term more
-pub terms_more : (ts : List EqualityTerm) (k : ℕ) (d : EqualityTerm) → k < length ts
-    → map form_term (take (k + 1) ts) ≡ map form_term (take k ts) ++ form_term (get_or ts k d) ∷ []
-terms_more ts k d l = ap (map form_term) (take_more ts k d l) ∙ map-append form_term (take k ts) (get_or ts k d ∷ [])
-
 -- ---- the facts of a block
 
 fact_has : (params : List Param) (from : ℕ) (fact : RegisterFact) → IsRegisterFact params from fact → HasForm fact

@@ -1,10 +1,9 @@
 -- The body and the tail of a group as a write of its results.
-use Rattle.std.proofs.Common.{◌≡◌, ◌⊎◌, ℕ, ◌+◌, ◌-◌, ◌*◌, ◌/◌, ◌^◌, ◌<◌, ◌≤◌, ◌==◌, ◌||◌, Bool, true, false, List, ◌++◌, suc, subst, append_assoc, length, take, drop, get_or, replicate, refl, ap, ap₂, sym, ◌∙◌, arith, inl, inr, zero-add, if◌then◌else◌}
-use Rattle.std.specs.Prelude.{nat_le}
+use Rattle.std.proofs.Common.{◌≡◌, ◌⊎◌, ℕ, ◌+◌, ◌-◌, ◌*◌, ◌^◌, ◌<◌, ◌≤◌, Bool, true, false, List, ◌++◌, suc, subst, append_assoc, length, take, drop, get_or, replicate, refl, ap, ap₂, sym, ◌∙◌, arith, inl, inr, zero-add, if◌then◌else◌}
 use Rattle.std.specs.List.{range_with_len}
 use Rattle.std.proofs.Math.Nat.{mul-le-mul_left}
 use Rattle.std.proofs.lemmas.Bool.{lt-ltb, cases_lt}
-use Rattle.std.proofs.lemmas.Bool.Decides.{eqb_tells, leb_tells}
+use Rattle.std.proofs.lemmas.Bool.Decides.{leb_tells}
 use Rattle.std.proofs.lemmas.List.{length-map, get_or-map, length-replicate, get_or-replicate, get_or-take, get_or-drop, get_or_past, get_or_append_left, get_or-append_right, length-take-le, length-append, length-drop}
 use Rattle.std.proofs.lemmas.List.FromFn.{length-range_with_len, get_or-range_with_len}
 use Rattle.byteorder.specs.Endian.{little_from}
@@ -20,48 +19,16 @@ use Rattle.vreg_groups.specs.declared.policies.Policy.{Policy}
 use Rattle.vreg_groups.specs.PointwiseLemmas.{is_written}
 use Rattle.lane_file.specs.declared.second.Second.{Second}
 use Rattle.lane_file.specs.declared.second.Second.TheVariants.{Group, Splat}
-use Rattle.lane_file.specs.InPlace.{Apart, HasRoom, IsDone, IsKept, IsSecondApart, IsSecondWithin, are_apart, is_active, is_second_apart, other_of, second_list, target}
+use Rattle.lane_file.specs.InPlace.{IsDone, IsKept, is_active, other_of, second_list, target}
 use Rattle.lane_file.proofs.Steps.{same_number}
 use Rattle.lane_file.proofs.Chosen.{filled_number}
 
 -- ---- rooms
 
--- whole chunks of a body stay within the group
-pub chunks_within : (vlenb count n : ℕ) → IsVlenb vlenb → n ≤ count * vlenb → 16 * ((n + 15) / 16) ≤ count * vlenb
-chunks_within vlenb count n (inl v) le = let le' : n ≤ count * 16 = rw (sym v) le in rw v (omega (arith, le'))
-chunks_within vlenb count n (inr (inl v)) le = let le' : n ≤ count * 32 = rw (sym v) le in rw v (omega (arith, le'))
-chunks_within vlenb count n (inr (inr v)) le = let le' : n ≤ count * 64 = rw (sym v) le in rw v (omega (arith, le'))
-
 pub group_room : (vlenb first count n : ℕ) → first + count ≤ 32 → n ≤ count * vlenb → first * vlenb + n ≤ 32 * vlenb
 group_room vlenb first count n inside le =
     let e : vlenb * (first + count) ≤ vlenb * 32 = mul-le-mul_left vlenb inside in
     omega (arith, e, le)
-
-pub second_room : {A : Type 0} (vlenb count n : ℕ) (b : Second A) → IsSecondWithin count b → n ≤ count * vlenb → HasRoom vlenb b n
-second_room vlenb count n (Group vs1) inside le = group_room vlenb vs1 count n inside le
-second_room vlenb count n (Splat value) inside le = tt
-
--- ---- groups that are apart
-
-pub places_apart : (vlenb count d a n : ℕ) → are_apart count d a ≡ true → n ≤ count * vlenb → Apart (d * vlenb) (a * vlenb) n
-places_apart vlenb count d a n is le =
-    elim (eqb_tells a d) [
-      | inl same ↦ inl (ap (λ t. t * vlenb) (same.1))
-      | inr other ↦ elim (leb_tells (a + count) d) [
-        | inl below ↦ let e : vlenb * (a + count) ≤ vlenb * d = mul-le-mul_left vlenb (below.1) in inr (inl (omega (arith, e, le)))
-        | inr not_below ↦ elim (leb_tells (d + count) a) [
-          | inl past ↦ let e : vlenb * (d + count) ≤ vlenb * a = mul-le-mul_left vlenb (past.1) in inr (inr (omega (arith, e, le)))
-          | inr not_past ↦ absurd (no other.0 not_below.0 not_past.0)
-        ]
-      ]
-    ]
-  where
-    no : (a == d) ≡ false → nat_le (a + count) d ≡ false → nat_le (d + count) a ≡ false → ⊥
-    no p q r = let e : true ≡ false = sym is ∙ ap₂ (λ x y. x || y || nat_le (d + count) a) p q ∙ r in absurd (omega (arith, ap {B = ℕ} (λ t. if t then 1 else 0) e))
-
-pub second_places_apart : {A : Type 0} (vlenb count d n : ℕ) (b : Second A) → is_second_apart count d b ≡ true → n ≤ count * vlenb → IsSecondApart vlenb (d * vlenb) b n
-second_places_apart vlenb count d n (Group vs1) is le = places_apart vlenb count d vs1 n is le
-second_places_apart vlenb count d n (Splat value) is le = tt
 
 -- ---- lists of elements
 

@@ -10,7 +10,7 @@ use Rattle.vreg_groups.specs.NewElements.{filled}
 use Rattle.vreg_groups.specs.declared.policies.Agnostic.{Agnostic}
 use Rattle.lane_file.specs.declared.second.Second.{Second}
 use Rattle.lane_file.specs.declared.second.Second.TheVariants.{Group, Splat}
-use Rattle.lane_file.specs.InPlace.{Apart, HasRoom, IsSecondApart, IsDone, IsKept, is_active, other_of, target}
+use Rattle.lane_file.specs.InPlace.{Apart, IsSecondApart, IsDone, IsKept, is_active, other_of, target}
 
 -- a number is made of its own bytes alone
 pub same_number : (n a b : ℕ) (xs ys : List ℕ) → ((k i j : ℕ) → k < n → i ≡ a + k → j ≡ b + k → get_or xs i 0 ≡ get_or ys j 0) → little_from a n xs ≡ little_from b n ys
@@ -77,9 +77,6 @@ fewer_kept d n old new kept rest = (
 pub none_done : (s c d n : ℕ) (z : ℕ → ℕ) (file : List ℕ) → s * c ≡ 16 → n ≡ 0 → IsDone s d z n file
 none_done zero c d n z file sizes e i le = absurd (omega (arith, sizes))
 none_done (suc s) c d n z file sizes e i le = absurd (omega (arith, e, le))
-
-pub none_kept : (d n : ℕ) (file : List ℕ) → IsKept d n file file
-none_kept d n file = (refl, λ k outside. refl)
 
 -- one more chunk, of which the first bytes are of the body
 pub more_done : (s c d m n : ℕ) (z : ℕ → ℕ) (now new : List ℕ) → s * c ≡ 16 → 16 * m ≤ n → n ≤ 16 * m + 16 → IsDone s d z (16 * m) now
@@ -188,23 +185,6 @@ more_chunk vlenb s c d a m n r room number f b masked inactive old now new sizes
     ]),
   ),
 )
-
-pub room_less : {A : Type 0} (vlenb m n : ℕ) (b : Second A) → m ≤ n → HasRoom vlenb b n → HasRoom vlenb b m
-room_less vlenb m n (Group vs1) le room = omega (arith, le, room)
-room_less vlenb m n (Splat value) le room = tt
-
-pub apart_less : (d a m n : ℕ) → m ≤ n → Apart d a n → Apart d a m
-apart_less d a m n le apart = elim apart [
-  | inl same ↦ inl same
-  | inr other ↦ elim other [
-    | inl below ↦ inr (inl (omega (arith, below, le)))
-    | inr past ↦ inr (inr (omega (arith, past, le)))
-  ]
-]
-
-pub second_apart_less : {A : Type 0} (vlenb d m n : ℕ) (b : Second A) → m ≤ n → IsSecondApart vlenb d b n → IsSecondApart vlenb d b m
-second_apart_less vlenb d m n (Group vs1) le apart = apart_less d (vs1 * vlenb) m n le apart
-second_apart_less vlenb d m n (Splat value) le apart = tt
 
 pub done_is : (s d n : ℕ) (z y : ℕ → ℕ) (mid new : List ℕ) → new ≡ mid → ((i : ℕ) → z i ≡ y i) → IsDone s d z n mid → IsDone s d y n new
 done_is s d n z y mid new is same done i le = ap (little_from (d + s * i) s) is ∙ done i le ∙ same i

@@ -350,20 +350,3 @@ pub read_at : (k : ℕ) (forms : List Linear) (f : Linear) (i a : ℕ) → i ≡
     → scaled k f ≡ scaled k (form_at forms a)
 unfolding form_at
 read_at k forms f i a e h = ap (scaled k) (h ∙ ap (λ j. get_or forms j (atom_form a)) e)
-
-with_replaced-IsForm : (n : ℕ) (forms : List Linear) → ((a : ℕ) → IsForm n (form_at forms a)) → (start : Linear) (ts : List Term)
-    → IsForm (length start.terms) start → IsForm (length (with_replaced forms start ts).terms) (with_replaced forms start ts)
-unfolding with_replaced
-with_replaced-IsForm n forms are start [] h = h
-with_replaced-IsForm n forms are start (t ∷ ts) h =
-    let part = scaled t.coefficient (form_at forms t.atom) in
-    with_replaced-IsForm n forms are (sum_of start part) ts
-    (sum_of-IsForm (length start.terms) (length part.terms) (length (sum_of start part).terms) start part h
-    (scaled-IsForm n (length part.terms) t.coefficient (form_at forms t.atom) (are t.atom) (omega arith)) (omega arith))
-
-pub substituted-IsForm : (n R : ℕ) (forms : List Linear) (f : Linear) → ((a : ℕ) → IsForm n (form_at forms a)) → f.constant < 2 ^ 32
-    → length (substituted forms f).terms ≤ R → IsForm R (substituted forms f)
-unfolding substituted
-substituted-IsForm n R forms f are fits room =
-    let whole = with_replaced-IsForm n forms are (number_form f.constant) f.terms (number-IsForm 0 f.constant fits) in
-    record { constant_fits = whole.constant_fits; rises = whole.rises; has_room = room }

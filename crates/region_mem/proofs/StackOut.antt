@@ -28,9 +28,6 @@ no_buffer : (area : Area) → (area.first == STACK) ≡ true → is_buffer_area 
 unfolding is_buffer_area
 no_buffer area is = grind (arith, common_steps, is)
 
-pub place_below : (areas : List Area) (i : ℕ) → position (λ area. area.first == STACK) areas ≡ Some i → i < length areas
-place_below areas i found = (position-Some (λ area. area.first == STACK) areas i nothing found).0
-
 pub same_buffers : (areas : List Area) (i : ℕ) → position (λ area. area.first == STACK) areas ≡ Some i → filter is_buffer_area (remove areas i) ≡ filter is_buffer_area areas
 same_buffers areas i found =
     let at = position-Some (λ area. area.first == STACK) areas i nothing found in

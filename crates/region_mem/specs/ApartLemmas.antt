@@ -204,10 +204,6 @@ stack_beside low high [] le rising = tt
 stack_beside low high (a ∷ areas) le rising =
     (inr (omega (arith, rising.0), omega (arith, rising.0, length_zeros STACK_SIZE)), stack_beside (end_of a + 1) high areas (omega (arith, rising.0)) rising.2)
 
-swap_beside : (others : List Area) (a : Area) → AllByRecursion (λ o. IsBeside o a) others → AllByRecursion (IsBeside a) others
-swap_beside [] a all = tt
-swap_beside (o ∷ others) a all = (beside_sym o a all.0, swap_beside others a all.1)
-
 -- Each of the areas between the segments lies beside each segment.
 all_between_beside : (areas : List Area) (ss : List SegmentView) → AllByRecursion IsBetweenSegments areas → AllByRecursion IsSegment ss → AreAllBeside areas (map segment_area ss)
 all_between_beside [] ss between all = tt

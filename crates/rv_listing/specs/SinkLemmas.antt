@@ -112,17 +112,3 @@ told_err (Err e) a b k n xs is part = part
 pub kept_same : (a : Option (List ℕ)) → Keeps a a
 kept_same None = tt
 kept_same (Some p) = refl
-
-pub keeps_both : (a b c : Option (List ℕ)) → Keeps a b → Keeps b c → Keeps a c
-keeps_both None b c first more = tt
-keeps_both (Some p) None c first more = absurd first
-keeps_both (Some p) (Some q) None first more = absurd more
-keeps_both (Some p) (Some q) (Some r) first more = more ∙ first
-
--- and then takes more
-pub keeps_then : (a b c : Option (List ℕ)) (text : List ℕ)
-    → Keeps a b → Appends b c text → Appends a c text
-keeps_then None b c text first more = tt
-keeps_then (Some p) None c text first more = absurd first
-keeps_then (Some p) (Some q) None text first more = absurd more
-keeps_then (Some p) (Some q) (Some r) text first more = more ∙ ap (λ l. l ++ text) first

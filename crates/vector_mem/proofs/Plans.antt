@@ -15,9 +15,6 @@ use Rattle.vector_mem.specs.Transfers.{accesses_of, data_of, is_masked, place_at
 use Rattle.vector_mem.specs.Words.{Setup, VMem}
 
 -- no element, one element more, and all
-pub no_accesses : (right : Right) (size : ℕ) (place : ℕ → ℕ) (active : List Bool) → accesses_from right size place active 0 0 ≡ []
-no_accesses right size place active = refl
-
 more : (right : Right) (size : ℕ) (place : ℕ → ℕ) (active : List Bool) (i : ℕ) (b : Bool) → get_or active i false ≡ b →
     accesses_from right size place active 0 (i + 1)
     ≡ accesses_from right size place active 0 i ++ map (access_at right size place) (cond b (i ∷ []) [])
@@ -111,13 +108,6 @@ from_inactive right size place active i below is =
     let m = length active - (i + 1) in
     let more : length active - i ≡ suc m = omega arith in
     from_here right size place active i (length active - i) m false more is
-
--- there is none past the last element
-pub from_end : (right : Right) (size : ℕ) (place : ℕ → ℕ) (active : List Bool) (i : ℕ) → length active ≤ i →
-    accesses_from right size place active i (length active - i) ≡ []
-from_end right size place active i past =
-    let none : length active - i ≡ 0 = omega arith in
-    ap (accesses_from right size place active i) none
 
 -- from the first element on they are all
 pub from_start : (right : Right) (size : ℕ) (place : ℕ → ℕ) (active : List Bool) →
