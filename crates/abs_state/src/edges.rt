@@ -88,10 +88,7 @@ pub fn sum_on<A: Allocator>(edge: &Edge<'_, A>, equality: &Equality) -> Form<64>
 fn is_sum_shown<A: Allocator>(edge: &Edge<'_, A>, number: u8, equality: &Equality) -> bool
     ensures { result ≡ is_sum_shown_of edge.now number equality.now }
 {
-    let state = edge.state;
-    let terms = equality.terms.as_slice();
-    let sum = current_sum(equality.constant, terms, state.numbers.forms());
-    sum.same(&edge.form_on(number))
+    sum_on(edge, equality).same(&edge.form_on(number))
 }
 
 /// Whether the equality of the fact is shown, if it has one.

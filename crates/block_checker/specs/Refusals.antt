@@ -1,6 +1,6 @@
 -- The error of what could not be proved at a word; the name and the address of each error, and how
 -- it is told.
-use Rattle.std.specs.Prelude.{ℕ, ◌++◌, List, Option, Some, None, codes}
+use Rattle.std.specs.Prelude.{ℕ, ◌≡◌, ◌++◌, List, Option, Some, None, codes}
 use Rattle.region_mem.specs.Digits.{digits_text}
 use Rattle.block_checker.specs.Words.{CheckError, Why}
 use Rattle.abs_domain.specs.Why.{why_text}
@@ -54,6 +54,10 @@ address_of (error.VectorFactNotProved pc) = Some pc
 address_of (error.BudgetNotProved pc) = Some pc
 address_of (error.BlockTooLong pc) = Some pc
 address_of error.NoMemory = None
+
+-- the error carries this address
+abbrev pub IsAt : ℕ → CheckError → Type 0
+IsAt pc e = address_of e ≡ Some pc
 
 -- what is wrong, in words
 abbrev pub words_of : CheckError → List ℕ

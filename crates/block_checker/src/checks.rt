@@ -22,6 +22,7 @@ ghost use Rattle.block_checker.specs.Explained.{IsReached, IsStopped, is_end};
 ghost use Rattle.block_checker.specs.Walking.{IsCountBelow, is_exit, is_fork_exit, progress_of};
 ghost use Rattle.block_checker.specs.Walking.{IsFault, StopsWalk, fault_answer, halt_answer};
 ghost use Rattle.block_checker.specs.Walking.{told_of};
+ghost use Rattle.block_checker.specs.Refusals.{IsAt};
 
 use crate::errors::{CheckError, told};
 use crate::refused::{Halt, Kept, Part, Stop};
@@ -149,7 +150,8 @@ pub(crate) fn edge_passes<A: Allocator, C: Allocator>(
     pc: u32,
     edge: &Edge<'_, A>,
 ) -> Result<(), CheckError>
-    ensures { result ≡ edge_passes_of certificate.now pc edge.now }
+    ensures value { result ≡ edge_passes_of certificate.now pc edge.now }
+    ensures at { IfErr result (IsAt pc) }
 {
     match implies(edge, block_for(certificate, edge.target())) {
         Ok(()) => Ok(()),
@@ -166,7 +168,8 @@ pub(crate) fn possible_passes<A: Allocator, C: Allocator>(
     state: &Abstract<A>,
     taken: bool,
 ) -> Result<(), CheckError>
-    ensures { result ≡ possible_passes_of certificate.now pc (refined taken state.now) }
+    ensures value { result ≡ possible_passes_of certificate.now pc (refined taken state.now) }
+    ensures at { IfErr result (IsAt pc) }
 {
     match state.refine(taken) {
         None => Ok(()),
@@ -182,7 +185,8 @@ fn edges_pass<A: Allocator, C: Allocator>(
     insn: &Insn,
     state: &Abstract<A>,
 ) -> Result<(), CheckError>
-    ensures { result ≡ edges_pass_of certificate.now pc insn.now state.now }
+    ensures value { result ≡ edges_pass_of certificate.now pc insn.now state.now }
+    ensures at { IfErr result (IsAt pc) }
 {
     if is_branch(insn) {
         possible_passes(certificate, pc, state, true)?;
@@ -207,16 +211,15 @@ fn followed<A: Allocator, C: Allocator>(
     state: &Abstract<A>,
 ) -> Result<Told, CheckError>
     requires { pc + 4 < 2 ^ 32 }
-    ensures { told_of result state.now
+    ensures value { told_of result state.now
         ≡ followed_of certificate.now pc insn.now (Ok state.now) }
+    ensures at { IfErr result (IsAt pc) }
 {
     if !ends_block(certificate, pc, insn) {
         return Ok(Told::On);
     }
-    match edges_pass(certificate, pc, insn, state) {
-        Ok(()) => Ok(Told::Ended),
-        Err(error) => Err(error),
-    }
+    edges_pass(certificate, pc, insn, state)?;
+    Ok(Told::Ended)
 }
 
 /// The word at pc. Where it is refused, the answer tells whether it was taken: what is known is that before it, or behind.
@@ -232,6 +235,7 @@ fn word_passes<A: Allocator, B: Allocator, C: Allocator>(
         ≡ word_passes_of image.now certificate.now pc state.old }
     ensures kept { IfErr result (λ e. IsReached image.now pc e.1 (Some state.old) state.new) }
     ensures word { IfErr result (λ e. is_end e.1 ≡ false) }
+    ensures at { IfErr result (λ e. IsAt pc e.0) }
     ensures counts { result ≡ Ok Told.On → state.new.words ≡ state.old.words + 1 }
     ensures low { IsOk result → pc + 4 ≤ 0xC000_0000 }
 {

@@ -1,6 +1,6 @@
 //! Why an image is not accepted.
 ghost use Rattle.std.specs.Prelude.{◌≡◌};
-ghost use Rattle.block_checker.specs.Refusals.{address_of, name_of, refusal, words_of};
+ghost use Rattle.block_checker.specs.Refusals.{IsAt, address_of, name_of, refusal, words_of};
 
 use abs_state::Why;
 use region_mem::Digits;
@@ -115,7 +115,8 @@ impl CheckError {
 
 /// What could not be proved, at the word at this address.
 pub(crate) fn told(why: Why, pc: u32) -> CheckError
-    ensures { result ≡ refusal why pc }
+    ensures value { result ≡ refusal why pc }
+    ensures at { IsAt pc result }
 {
     match why {
         Why::IllegalWord => CheckError::IllegalWord(pc),

@@ -96,10 +96,7 @@ pub fn put_registers<S: Sink>(out: &mut S, x: &[u32; 32]) -> Result<(), Failed>
         (S.failures out.old) (S.failures out.new) (registers_text x.now) }
 {
     for number in 0..32 {
-        match put_register(out, number, x[number]) {
-            Ok(()) => {}
-            Err(error) => return Err(error),
-        }
+        put_register(out, number, x[number])?;
     }
     Ok(())
 }
@@ -134,10 +131,7 @@ fn put_bytes<S: Sink>(out: &mut S, bytes: &[u8]) -> Result<(), Failed>
         (S.failures out.old) (S.failures out.new) (encode_lower bytes.now) }
 {
     for byte in bytes {
-        match put_byte(out, *byte) {
-            Ok(()) => {}
-            Err(error) => return Err(error),
-        }
+        put_byte(out, *byte)?;
     }
     Ok(())
 }
@@ -147,10 +141,8 @@ fn put_bytes_line<S: Sink>(out: &mut S, bytes: &[u8]) -> Result<(), Failed>
     ensures { Told result (S.contents out.old) (S.contents out.new)
         (S.failures out.old) (S.failures out.new) (encode_lower bytes.now ++ codes "\n") }
 {
-    match put_bytes(out, bytes) {
-        Ok(()) => put_all(out, &[Piece::Text("\n")]),
-        Err(error) => Err(error),
-    }
+    put_bytes(out, bytes)?;
+    put_all(out, &[Piece::Text("\n")])
 }
 
 /// Tells a vector register, by its number.
@@ -165,10 +157,8 @@ fn put_vector_bytes<S: Sink>(out: &mut S, number: u64, bytes: &[u8]) -> Result<(
         Piece::Number(number % 10),
         Piece::Text("="),
     ];
-    match put_all(out, &label) {
-        Ok(()) => put_bytes_line(out, bytes),
-        Err(error) => Err(error),
-    }
+    put_all(out, &label)?;
+    put_bytes_line(out, bytes)
 }
 
 /// Tells a vector register.
@@ -203,10 +193,8 @@ fn put_word_line<S: Sink>(out: &mut S, address: u32, word: u32) -> Result<(), Fa
         Piece::Word(word),
         Piece::Text(" "),
     ];
-    match put_all(out, &start) {
-        Ok(()) => put_meaning_line(out, address, word),
-        Err(error) => Err(error),
-    }
+    put_all(out, &start)?;
+    put_meaning_line(out, address, word)
 }
 
 /// Tells what a word means, and ends the line.
@@ -214,10 +202,8 @@ fn put_meaning_line<S: Sink>(out: &mut S, address: u32, word: u32) -> Result<(),
     ensures { Told result (S.contents out.old) (S.contents out.new)
         (S.failures out.old) (S.failures out.new) (listing_text address word ++ codes "\n") }
 {
-    match put_listing(out, word, address) {
-        Ok(()) => put_all(out, &[Piece::Text("\n")]),
-        Err(error) => Err(error),
-    }
+    put_listing(out, word, address)?;
+    put_all(out, &[Piece::Text("\n")])
 }
 
 /// Tells pc, and what the vector extension keeps beside its registers.

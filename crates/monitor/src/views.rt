@@ -115,10 +115,7 @@ impl<'a, const VLENB: usize> View<'a, VLENB> {
             (byte_at self.now.session.now.machine.memory (self.now.address + i))) self.now.count) }
     {
         for offset in 0..self.count {
-            match self.put_byte_after(out, offset) {
-                Ok(()) => {}
-                Err(error) => return Err(error),
-            }
+            self.put_byte_after(out, offset)?;
         }
         Ok(())
     }
@@ -130,10 +127,8 @@ impl<'a, const VLENB: usize> View<'a, VLENB> {
             (byte_at self.now.session.now.machine.memory (self.now.address + i))) self.now.count
             ++ codes "\n") }
     {
-        match self.put_bytes(out) {
-            Ok(()) => put_all(out, &[Piece::Text("\n")]),
-            Err(error) => Err(error),
-        }
+        self.put_bytes(out)?;
+        put_all(out, &[Piece::Text("\n")])
     }
 
     /// Tells its address and its bytes.
@@ -142,10 +137,8 @@ impl<'a, const VLENB: usize> View<'a, VLENB> {
             (S.failures out.new)
             (memory_text self.now.session.now.machine.memory self.now.address self.now.count) }
     {
-        match put_all(out, &[Piece::Word(self.address), Piece::Text("=")]) {
-            Ok(()) => self.put_bytes_line(out),
-            Err(error) => Err(error),
-        }
+        put_all(out, &[Piece::Word(self.address), Piece::Text("=")])?;
+        self.put_bytes_line(out)
     }
 
     /// Tells its words, a line each.
@@ -155,10 +148,7 @@ impl<'a, const VLENB: usize> View<'a, VLENB> {
             (lines_text self.now.session.now.machine.memory self.now.address self.now.count) }
     {
         for place in 0..self.count {
-            match put_line_from(self.session, out, self.address as u64 + 4 * (place as u64)) {
-                Ok(()) => {}
-                Err(error) => return Err(error),
-            }
+            put_line_from(self.session, out, self.address as u64 + 4 * (place as u64))?;
         }
         Ok(())
     }

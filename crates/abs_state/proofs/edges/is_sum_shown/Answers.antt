@@ -7,5 +7,5 @@ use Rattle.abs_state.proofs.edges.is_sum_shown.Goals as goal
 pub returns : goal.returns
 unfolding is_sum_shown
 returns g c =
-    let same = same_is c.same.result c.current_sum-sum.result c.form_on.result c.same.ensures in
-    grind (arith, same, c.current_sum-sum.ensures, c.form_on.ensures, c.forms.ensures, c.as_slice-terms.ensures)
+    let same = same_is c.same.result c.sum_on.result c.form_on.result c.same.ensures in
+    grind (arith, same, c.sum_on.ensures, c.form_on.ensures)

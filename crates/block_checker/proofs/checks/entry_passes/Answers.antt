@@ -11,4 +11,4 @@ returns-in-Err-clause-stop g c =
     let certificate = c.args.certificate.now in
     let error = c.in-Err.error in
     let refused : entry_passes image certificate ≡ Err error = first_of (search rules, grind (arith, common_steps)) in
-    entry_stops image certificate error c.entry-pc.result c.args.state.now c.entry-pc.ensures.value (sym c.in-Err.ensures) refused c.requires.state
+    entry_stops image certificate error c.entry-pc.result c.args.state.now c.in-Err.ensures.at refused c.requires.state

@@ -1,7 +1,7 @@
 use Rattle.std.proofs.Common.{◌<◌, rules, arith, refl, sym, ◌∙◌}
 use Rattle.abs_state.specs.declared.state.TheConstants.{MOST_WORDS}
 use Rattle.block_checker.proofs.Walks.{walk_more, walk_refused}
-use Rattle.block_checker.proofs.Explaining.{known_next, stops_at, word_there}
+use Rattle.block_checker.proofs.Explaining.{known_next, stops_at}
 use Rattle.block_checker.proofs.checks.walk.Goals as goal
 
 pub returns-in-Err-clause-answer : goal.returns-in-Err-clause-answer
@@ -16,8 +16,7 @@ returns-in-Err-clause-stop g c =
     let l : c.loop-steps._steps < MOST_WORDS = first_of (search rules, omega (arith, c.loop-steps-test.true)) in
     stops_at c.args.image.now c.args.certificate.now c.args.start c.loop-steps._steps c.loop-steps.pc c.args.state.now c.loop-steps.state
     _ c.in-Err.error c.in-Err.kept c.loop-steps.invariant.place l c.loop-steps.invariant.known
-    (word_there c.args.image.now c.args.certificate.now c.loop-steps.pc c.loop-steps.state c.in-Err.error (sym c.in-Err.ensures.value))
-    c.in-Err.ensures.word c.in-Err.ensures.kept
+    c.in-Err.ensures.at c.in-Err.ensures.word c.in-Err.ensures.kept
 
 pub loop-steps-preserved : goal.loop-steps-preserved
 loop-steps-preserved g c =

@@ -3,5 +3,5 @@ use Rattle.std.proofs.Common.{arith}
 use Rattle.std.proofs.lemmas.Grind.{common_steps}
 use Rattle.block_checker.proofs.errors.told.Goals as goal
 
-pub returns-in-OrderNotProved : goal.returns-in-OrderNotProved
-returns-in-OrderNotProved c = grind (arith, common_steps)
+pub returns-in-OrderNotProved-clause-value : goal.returns-in-OrderNotProved-clause-value
+returns-in-OrderNotProved-clause-value c = grind (arith, common_steps)
