@@ -1,5 +1,5 @@
--- What comes of an image that passes the check.
-use Rattle.std.proofs.Common.{◌≡◌, ℕ, List, Option, Some, None, IfSome, Result, Ok, Err, MatchResult, ◌-◌, ◌∙◌, arith, ap}
+-- What comes of a run that is opened.
+use Rattle.std.proofs.Common.{◌≡◌, ℕ, List, Option, Some, None, IfSome, Ok, ◌-◌, ◌∙◌, arith, ap}
 use Rattle.block_checker.specs.Accepted.{AcceptedView}
 use Rattle.block_checker.specs.Bound.{bound_of, scalars_of}
 use Rattle.region_mem.specs.Memory.{args_of}
@@ -13,29 +13,10 @@ use Rattle.machine.specs.Machine.{Machine}
 use Rattle.machine.specs.Run.{Ended, outcome, outcome_from}
 use Rattle.machine.specs.Start.{start}
 use Rattle.vreg_groups.specs.declared.policies.Agnostic.{Agnostic}
-use Rattle.cert_note.specs.Reading.{IsEvidence, IsRefusal, certificate_of, out_of_memory}
-use Rattle.cert_note.specs.declared.refusals.CertRefusal.{CertRefusal}
-use Rattle.commands.specs.Accepted.{as_read, certificate_in}
-use Rattle.commands.specs.Ending.{stop_of_certificate}
 use Rattle.commands.specs.Runs.{if_opened}
 use Rattle.commands.specs.Trial.{OrMemory}
 use Rattle.commands.specs.declared.trial.End.TheVariants as end
-use Rattle.commands.specs.Words.{CertError, CertificateView, Stop}
 use Rattle.commands.specs.declared.trial.Trial.{Trial}
-
--- ---- why bytes are no certificate
-
-as_refused : (bytes : List ℕ) (r : Result CertificateView CertError) (refusal : CertRefusal) (reason : Stop)
-    → MatchResult r (λ c. refusal ≡ out_of_memory) (λ e. IsEvidence bytes e refusal)
-    → reason ≡ stop_of_certificate refusal.error → OrMemory (as_read r) (Err reason)
-as_refused bytes (Ok c) refusal reason is says = says ∙ ap (λ (told : CertRefusal). stop_of_certificate told.error) is
-as_refused bytes (Err e) refusal reason is says = ap Err (says ∙ ap stop_of_certificate is.error)
-
-pub refused_as : (bytes : List ℕ) (refusal : CertRefusal) (reason : Stop) → IsRefusal bytes refusal → reason ≡ stop_of_certificate refusal.error
-    → OrMemory (certificate_in (Some bytes)) (Err reason)
-refused_as bytes refusal reason is says = as_refused bytes (certificate_of bytes) refusal reason is says
-
--- ---- a run
 
 -- a run that is opened and ended is the one that is defined
 pub opened : (vlenb : ℕ) (agnostic : Agnostic) (a : AcceptedView) (args : List Argument) (fault : Option OpenError)

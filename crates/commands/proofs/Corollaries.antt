@@ -1,5 +1,5 @@
 -- How subcommands end over files that are known.
-use Rattle.std.proofs.Common.{◌≡◌, ◌⊎◌, ◌∙◌, ◌++◌, inl, inr, map, Bool, ℕ, List, [], Some, Result, Ok, Err, MatchResult, get_or, refl, sym, ap}
+use Rattle.std.proofs.Common.{◌≡◌, ◌⊎◌, ◌∙◌, ◌++◌, inl, inr, map, Bool, true, false, ℕ, List, [], Some, Result, Ok, Err, MatchResult, get_or, refl, sym, ap, subst}
 use Rattle.std.proofs.lemmas.List.{append-nil}
 use Rattle.job_file.specs.Job.{Text}
 use Rattle.job_file.specs.declared.values.RunParam.{RunParam}
@@ -21,31 +21,32 @@ use Rattle.commands.specs.declared.stop.Status.TheVariants as status
 use Rattle.commands.specs.declared.stop.Stop.{Stop}
 use Rattle.commands.specs.declared.stop.Stop.TheVariants as stop
 
--- no reason to stop is told by this status
-undone : (reason : Stop) → status_of reason ≡ status.Done → ⊥
-undone (stop.Job error) is = cc
-undone (stop.File path) is = cc
-undone (stop.Image error) is = cc
-undone stop.NoCertificate is = cc
-undone (stop.Certificate error) is = cc
-undone (stop.Check error) is = cc
-undone (stop.Make error) is = cc
-undone (stop.Open error) is = cc
-undone stop.Memory is = cc
-undone stop.Output is = cc
+-- the statuses of what was done
+abbrev is_done : Status → Bool
+is_done status.Done = true
+is_done status.Stopped = true
+is_done other = false
 
--- nor by this one
-unstopped : (reason : Stop) → status_of reason ≡ status.Stopped → ⊥
-unstopped (stop.Job error) is = cc
-unstopped (stop.File path) is = cc
-unstopped (stop.Image error) is = cc
-unstopped stop.NoCertificate is = cc
-unstopped (stop.Certificate error) is = cc
-unstopped (stop.Check error) is = cc
-unstopped (stop.Make error) is = cc
-unstopped (stop.Open error) is = cc
-unstopped stop.Memory is = cc
-unstopped stop.Output is = cc
+undone : (reason : Stop) → is_done (status_of reason) ≡ false
+undone (stop.Job error) = refl
+undone (stop.File path) = refl
+undone (stop.Image error) = refl
+undone stop.NoCertificate = refl
+undone (stop.Certificate error) = refl
+undone (stop.Check error) = refl
+undone (stop.Make error) = refl
+undone (stop.Open error) = refl
+undone stop.Memory = refl
+undone stop.Output = refl
+
+-- A subcommand that ends with one of these does what it does.
+done_of : {explains : Bool} {does : Status → Type 0} {stops : Stop → Type 0} {told tells : Stream} {s : Status}
+    → Ends explains does stops told tells s → is_done s ≡ true → does s
+done_of {explains} {does} {stops} {told} {tells} {s} e is = by_came (plain e.came) e.comes e.status
+  where
+    by_came : (r : Result Status Stop) → MatchResult r does stops → s ≡ status_after r → does s
+    by_came (Ok ended) c same = subst does (sym same) c
+    by_came (Err reason) c same = absurd (let both : true ≡ false = sym is ∙ (ap is_done same ∙ undone reason) in cc)
 
 some : {A : Type 0} (a b : A) → Some a ≡ Some b → a ≡ b
 some a b is = cc
@@ -63,13 +64,9 @@ pub check_done : {explains : Bool} (was has : Held) (path : Text) (old new : Lis
     (StopsCheck (files_of (Some was)) (known was has old new before now) path) told tells s
     → s ≡ status.Done
     → (file : List ℕ) × (bytes_at was path ≡ Some file) × (line : List ℕ) × IsBoundOf file line × (new ≡ old ++ line)
-check_done was has path old new before now told tells s e is = go (plain e.came) e.comes (sym e.status ∙ is)
-  where
-    go : (done : Result Status Stop) → MatchResult done (Checks (files_of (Some was)) path (known was has old new before now))
-        (StopsCheck (files_of (Some was)) (known was has old new before now) path) → status_after done ≡ status.Done
-        → (file : List ℕ) × (bytes_at was path ≡ Some file) × (line : List ℕ) × IsBoundOf file line × (new ≡ old ++ line)
-    go (Ok ended) c is = (c.there.0, c.there.1, _, record { image = c.image; spells = c.there.2; accepted = c.accepted; passes = c.passes; budget = c.budget; entry = c.entry; told = refl }, c.told.0)
-    go (Err reason) c is = absurd (undone reason is)
+check_done was has path old new before now told tells s e is =
+    let c = done_of e (ap is_done is) in
+    (c.there.0, c.there.1, _, record { image = c.image; spells = c.there.2; accepted = c.accepted; passes = c.passes; budget = c.budget; entry = c.entry; told = refl }, c.told.0)
 
 pub check_kept : {explains : Bool} (was has : Held) (path : Text) (old new : List ℕ) (before now : ℕ) (told tells : Stream) (s : Status)
     → Ends explains (Checks (files_of (Some was)) path (known was has old new before now))
@@ -100,11 +97,9 @@ StopsSo was path c stops = StopsOfTable (files_of (Some was)) (Wrote c) path (st
 pub run_done : {explains : Bool} (registers : Bool) (was has : Held) (path : Text) (old new : List ℕ) (before now : ℕ) (told tells : Stream) (s : Status)
     → Ends explains (DoesRun registers was path (known was has old new before now)) (StopsSo was path (known was has old new before now) (StopsRun (files_of (Some was)) registers)) told tells s
     → s ≡ status.Done → IsRunOf registers was has path old new
-run_done registers was has path old new before now told tells s e is = go (plain e.came) e.comes (sym e.status ∙ is)
-  where
-    go : (done : Result Status Stop) → MatchResult done (DoesRun registers was path (known was has old new before now)) (StopsSo was path (known was has old new before now) (StopsRun (files_of (Some was)) registers))
-        → status_after done ≡ status.Done → IsRunOf registers was has path old new
-    go (Ok ended) (table, spells, r) is = record {
+run_done registers was has path old new before now told tells s e is =
+    let (table, spells, r) = done_of e (ap is_done is) in
+    record {
       table = table;
       spells = spells;
       job = r.job;
@@ -120,7 +115,6 @@ run_done registers was has path old new before now told tells s e is = go (plain
       printed = r.told.0;
       files = some _ _ r.wrote;
     }
-    go (Err reason) c is = absurd (undone reason is)
 
 abbrev DoesTry : Bool → Held → Text → Change → Status → Type 0
 DoesTry registers was path c = OfTable (files_of (Some was)) path (λ table. Tries (files_of (Some was)) registers table c)
@@ -128,11 +122,10 @@ DoesTry registers was path c = OfTable (files_of (Some was)) path (λ table. Tri
 pub try_done : {explains : Bool} (registers : Bool) (was has : Held) (path : Text) (old new : List ℕ) (before now : ℕ) (told tells : Stream) (s : Status)
     → Ends explains (DoesTry registers was path (known was has old new before now)) (StopsSo was path (known was has old new before now) (StopsTry (files_of (Some was)) registers)) told tells s
     → (s ≡ status.Done) ⊎ (s ≡ status.Stopped) → IsTrialOf registers was has path old new s
-try_done registers was has path old new before now told tells s e is = go (plain e.came) e.comes e.status is
-  where
-    go : (done : Result Status Stop) → MatchResult done (DoesTry registers was path (known was has old new before now)) (StopsSo was path (known was has old new before now) (StopsTry (files_of (Some was)) registers))
-        → s ≡ status_after done → (s ≡ status.Done) ⊎ (s ≡ status.Stopped) → IsTrialOf registers was has path old new s
-    go (Ok ended) (table, spells, r) same is = record {
+try_done registers was has path old new before now told tells s e is =
+    let ended : is_done s ≡ true = elim is [ inl done ↦ ap is_done done | inr stopped ↦ ap is_done stopped ] in
+    let (table, spells, r) = done_of e ended in
+    record {
       table = table;
       spells = spells;
       job = r.job;
@@ -145,10 +138,8 @@ try_done registers was has path old new before now told tells s e is = go (plain
       comes = r.comes;
       printed = r.told.0;
       files = some _ _ r.wrote;
-      status = same ∙ r.done;
+      status = r.done;
     }
-    go (Err reason) c same (inl is) = absurd (undone reason (sym same ∙ is))
-    go (Err reason) c same (inr is) = absurd (unstopped reason (sym same ∙ is))
 
 abbrev DoesMake : Held → Text → Text → Text → Change → Status → Type 0
 DoesMake was path job_path out c =
@@ -157,12 +148,9 @@ DoesMake was path job_path out c =
 pub make_done : {explains : Bool} (was has : Held) (path job_path out : Text) (old new : List ℕ) (before now : ℕ) (told tells : Stream) (s : Status)
     → Ends explains (DoesMake was path job_path out (known was has old new before now)) (StopsSo was job_path (known was has old new before now) (λ c. StopsMake (files_of (Some was)) c path out)) told tells s
     → s ≡ status.Done → IsMadeOf was has path job_path out old new
-make_done was has path job_path out old new before now told tells s e is = go (plain e.came) e.comes (sym e.status ∙ is)
-  where
-    go : (done : Result Status Stop)
-        → MatchResult done (DoesMake was path job_path out (known was has old new before now)) (StopsSo was job_path (known was has old new before now) (λ c. StopsMake (files_of (Some was)) c path out))
-        → status_after done ≡ status.Done → IsMadeOf was has path job_path out old new
-    go (Ok ended) (table, spells, r) is = record {
+make_done was has path job_path out old new before now told tells s e is =
+    let (table, spells, r) = done_of e (ap is_done is) in
+    record {
       table = table;
       spells = spells;
       job = r.job;
@@ -178,16 +166,13 @@ make_done was has path job_path out old new before now told tells s e is = go (p
       printed = r.told.0;
       files = some _ _ r.wrote;
     }
-    go (Err reason) c is = absurd (undone reason is)
 
 pub mon_done : {explains : Bool} {stops : Stop → Type 0} (was has : Held) (path : Text) (e : Exchange) (told tells : Stream) (s : Status)
     → Ends explains (OfTable (files_of (Some was)) path (λ table. Mons (files_of (Some was)) table e (Some was) (Some has))) stops told tells s
     → s ≡ status.Done → IsWatchOf was has path e
-mon_done {explains} {stops} was has path e told tells s ends is = go (plain ends.came) ends.comes (sym ends.status ∙ is)
-  where
-    go : (done : Result Status Stop) → MatchResult done (OfTable (files_of (Some was)) path (λ table. Mons (files_of (Some was)) table e (Some was) (Some has))) stops
-        → status_after done ≡ status.Done → IsWatchOf was has path e
-    go (Ok ended) (table, spells, r) is = record {
+mon_done {explains} {stops} was has path e told tells s ends is =
+    let (table, spells, r) = done_of ends (ap is_done is) in
+    record {
       table = table;
       spells = spells;
       job = r.job;
@@ -202,4 +187,3 @@ mon_done {explains} {stops} was has path e told tells s ends is = go (plain ends
       stopped = r.stopped;
       files = some _ _ r.wrote;
     }
-    go (Err reason) c is = absurd (undone reason is)

@@ -2,12 +2,13 @@
 use Rattle.std.proofs.Common.{◌≡◌, ◌∙◌, ◌++◌, ◌+◌, ◌<◌, inl, inr, ℕ, List, [], ◌∷◌, length, take, drop, get_or, Option, Some, None, Result, Ok, Err, refl, sym, ap, subst, append_assoc, add-one}
 use Rattle.std.proofs.Math.Seq.{take-suc}
 use Rattle.std.proofs.lemmas.List.{append-nil, take-append-drop}
-use Rattle.std.specs.Io.KnownBytes.{Appends, Consumes, IsAtEnd, Keeps, ReadConsumes}
+use Rattle.std.specs.Io.KnownBytes.{Consumes, IsAtEnd, Keeps, ReadConsumes}
 use Rattle.std.specs.Str.{IsUtf8}
 use Rattle.monitor.specs.Commands.{order_of}
 use Rattle.monitor.specs.declared.commands.Flow.{Flow}
 use Rattle.monitor.specs.declared.commands.Flow.TheVariants as flow
 use Rattle.monitor.specs.declared.commands.MonError.TheVariants as error
+use Rattle.rv_listing.specs.SinkLemmas.{appends_both, keeps_appends, kept_same}
 use Rattle.commands.specs.Streams.{Prints, Stream}
 use Rattle.commands.specs.Talks.{AreAnswered, AreLines, GoesOver, IsAnswered, IsDone, IsLine, Quits, Stands, Talks, Watch, answer_of, error_line, flow_after, joined}
 
@@ -102,21 +103,11 @@ quits-more vlenb read left bytes old mid new some more s q = record {
 
 -- ---- what is read and printed
 
-appends-none : (o : Option (List ℕ)) → Appends o o []
-appends-none None = tt
-appends-none (Some xs) = sym (append-nil xs)
-
-appends-more : (a b c : Option (List ℕ)) (xs ys : List ℕ) → Appends a b xs → Appends b c ys → Appends a c (xs ++ ys)
-appends-more None b c xs ys first second = tt
-appends-more (Some had) None c xs ys first second = absurd first
-appends-more (Some had) (Some more) None xs ys first second = absurd second
-appends-more (Some had) (Some more) (Some has) xs ys first second = second ∙ ap (λ (l : List ℕ). l ++ ys) first ∙ append_assoc had xs ys
-
 pub prints-none : (s : Stream) → Prints s s []
-prints-none s = (appends-none s.holds, refl)
+prints-none s = (keeps_appends s.holds s.holds (kept_same s.holds), refl)
 
 pub prints-more : (a b c : Stream) (xs ys : List ℕ) → Prints a b xs → Prints b c ys → Prints a c (xs ++ ys)
-prints-more a b c xs ys first second = (appends-more a.holds b.holds c.holds xs ys first.0 second.0, second.1 ∙ first.1)
+prints-more a b c xs ys first second = (appends_both a.holds b.holds c.holds xs ys first.0 second.0, second.1 ∙ first.1)
 
 pub consumes-more : (a b c : Option (List ℕ)) (xs ys : List ℕ) → Consumes a b xs → Consumes b c ys → Consumes a c (xs ++ ys)
 consumes-more None b c xs ys first second = tt

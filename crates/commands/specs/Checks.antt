@@ -1,6 +1,6 @@
 -- What `check` does.
 use Rattle.std.specs.Prelude.{◌≡◌, ◌++◌, codes, ℕ, List, [], Some, None, Ok, option_map, ◌==◌, if◌then◌else◌}
-use Rattle.std.specs.Fmt.{decimal}
+use Rattle.cert_note.specs.Values.{budget_text, product_text}
 use Rattle.cert_note.specs.declared.values.Budget.{Budget}
 use Rattle.commands.specs.Accepted.{accepted_of, certificate_in}
 use Rattle.commands.specs.Files.{Files, IsImageAt, IsNoImageAt}
@@ -10,21 +10,14 @@ use Rattle.commands.specs.Words.{AcceptedView, Gains, ImageView, Status, Stop, T
 use Rattle.commands.specs.declared.stop.Status.TheVariants as status
 use Rattle.commands.specs.declared.stop.Stop.TheVariants as stop
 
+-- what a budget's text ends with
+abbrev pub second_text : Budget → List ℕ
+second_text budget = if budget.second_factor == 0 then []
+    else product_text budget.second_factor budget.second_register
+
 -- the line that tells the bound of an accepted image's runs
-abbrev pub single_line : Budget → List ℕ
-single_line budget = codes "accepted: bound " ++ (decimal budget.constant ++ (codes " + "
-    ++ (decimal budget.factor ++ (codes " * x" ++ (decimal budget.register ++ codes "\n")))))
-
-abbrev pub double_line : Budget → List ℕ
-double_line budget = codes "accepted: bound " ++ (decimal budget.constant ++ (codes " + "
-    ++ (decimal budget.factor ++ (codes " * x" ++ (decimal budget.register ++ (codes " + "
-    ++ (decimal budget.second_factor ++ (codes " * x"
-    ++ (decimal budget.second_register ++ codes "\n")))))))))
-
--- the second register is told where there is one
 abbrev pub bound_line : Budget → List ℕ
-bound_line budget =
-    if budget.second_factor == 0 then single_line budget else double_line budget
+bound_line budget = codes "accepted: bound " ++ (budget_text budget ++ codes "\n")
 
 -- the bound that the block at an accepted image's entry states
 abbrev pub IsBudget : AcceptedView → Budget → Type 0

@@ -12,6 +12,7 @@ pub mod Runs
 pub mod Starts
 pub mod Steps
 pub mod Streams
+pub mod System
 pub mod Talks
 pub mod Texts
 pub mod Trial

@@ -1,7 +1,8 @@
 //! `check`: an image against its certificate, and the bound of its runs.
 ghost use Rattle.std.specs.Prelude.{MatchResult};
 ghost use Rattle.rv_listing.specs.Sinks.{Told};
-ghost use Rattle.commands.specs.Checks.{Checks, StopsCheck, bound_line, double_line, single_line};
+ghost use Rattle.cert_note.specs.Values.{budget_text, product_text};
+ghost use Rattle.commands.specs.Checks.{Checks, StopsCheck, bound_line, second_text};
 ghost use Rattle.commands.specs.Ending.{Ends, plain};
 ghost use Rattle.commands.specs.Files.{files_of};
 ghost use Rattle.commands.specs.Streams.{change, stream};
@@ -60,52 +61,42 @@ fn check_at<'a, S: Store, O: Stream>(
     }
 }
 
-/// Tells a bound of one register.
-fn put_single<O: Sink>(budget: &Budget, output: &mut O) -> Result<(), Failed>
+/// Tells how many instructions a run takes for each one in a register's value.
+fn put_product<O: Sink>(factor: u32, register: u8, output: &mut O) -> Result<(), Failed>
     ensures { Told result (O.contents output.old) (O.contents output.new)
-        (O.failures output.old) (O.failures output.new) (single_line budget.now) }
+        (O.failures output.old) (O.failures output.new) (product_text factor register) }
 {
-    let Budget {
-        constant,
-        factor,
-        register,
-        ..
-    } = *budget;
     put_all(
         output,
         &[
-            Piece::Text("accepted: bound "),
-            Piece::Number(constant as u64),
             Piece::Text(" + "),
             Piece::Number(factor as u64),
             Piece::Text(" * x"),
             Piece::Number(register as u64),
-            Piece::Text("\n"),
         ],
     )
 }
 
-/// Tells a bound of two registers.
-fn put_double<O: Sink>(budget: &Budget, output: &mut O) -> Result<(), Failed>
+/// Tells the second register of a budget, where there is one.
+fn put_second<O: Sink>(budget: &Budget, output: &mut O) -> Result<(), Failed>
     ensures { Told result (O.contents output.old) (O.contents output.new)
-        (O.failures output.old) (O.failures output.new) (double_line budget.now) }
+        (O.failures output.old) (O.failures output.new) (second_text budget.now) }
 {
-    put_all(
-        output,
-        &[
-            Piece::Text("accepted: bound "),
-            Piece::Number(budget.constant as u64),
-            Piece::Text(" + "),
-            Piece::Number(budget.factor as u64),
-            Piece::Text(" * x"),
-            Piece::Number(budget.register as u64),
-            Piece::Text(" + "),
-            Piece::Number(budget.second_factor as u64),
-            Piece::Text(" * x"),
-            Piece::Number(budget.second_register as u64),
-            Piece::Text("\n"),
-        ],
-    )
+    if budget.second_factor == 0 {
+        put_all(output, &[])
+    } else {
+        put_product(budget.second_factor, budget.second_register, output)
+    }
+}
+
+/// Tells a budget, as its `Display` does.
+fn put_budget<O: Sink>(budget: &Budget, output: &mut O) -> Result<(), Failed>
+    ensures { Told result (O.contents output.old) (O.contents output.new)
+        (O.failures output.old) (O.failures output.new) (budget_text budget.now) }
+{
+    put_all(output, &[Piece::Number(budget.constant as u64)])?;
+    put_product(budget.factor, budget.register, output)?;
+    put_second(budget, output)
 }
 
 /// Tells what an accepted image's runs take at most.
@@ -113,11 +104,9 @@ fn put_bound<O: Sink>(budget: &Budget, output: &mut O) -> Result<(), Failed>
     ensures { Told result (O.contents output.old) (O.contents output.new)
         (O.failures output.old) (O.failures output.new) (bound_line budget.now) }
 {
-    if budget.second_factor == 0 {
-        put_single(budget, output)
-    } else {
-        put_double(budget, output)
-    }
+    put_all(output, &[Piece::Text("accepted: bound ")])?;
+    put_budget(budget, output)?;
+    put_all(output, &[Piece::Text("\n")])
 }
 
 /// Prints the same.

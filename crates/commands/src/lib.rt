@@ -4,7 +4,7 @@
 //! others: `starts` (what those on a job begin with), `files` (what is read, and the out files),
 //! `accepted` (an image with its certificate), `sources` and `lines` (the input of `mon`), `trial` (what comes of a
 //! run), `registers` (those that it left), `did` (what was done), `stop` (statuses and reasons to stop), `texts` and `escapes` (how those are
-//! told), `halt` (what more is told of them), `why` (of what they are), `store` (where files are) and `memory` (files in memory).
+//! told), `halt` (what more is told of them), `why` (of what they are), `store` (where files are), `system` (those of the system) and `memory` (files in memory).
 #![tactic(auto)]
 
 mod accepted;
@@ -23,6 +23,7 @@ mod sources;
 mod starts;
 mod stop;
 mod store;
+mod system;
 mod texts;
 mod trial;
 mod tries;
@@ -39,4 +40,5 @@ pub use rv_listing::{Failed, Over, Sink, Stream};
 pub use sources::{Counted, Source};
 pub use stop::{Status, Stop};
 pub use store::{Disk, MOST_READS, Store, StoreError, read_some, reads_in_numbers};
+pub use system::{Native, System};
 pub use tries::try_job;

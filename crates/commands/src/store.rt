@@ -1,15 +1,16 @@
 //! Where a job's files are read and written.
 ghost use Rattle.std.specs.Io.KnownBytes.{Consumes, IsAtEnd};
-ghost use Rattle.std.specs.Prelude.{◌≡◌, ◌≤◌, ◌<◌, IfOk, None, OnOk, length};
+ghost use Rattle.std.specs.Prelude.{◌≡◌, ◌≤◌, ◌<◌, IfOk, None, Ok, OnOk, length};
 ghost use Rattle.std.specs.IoError.{error_kind};
 ghost use Rattle.commands.specs.Ending.{store_error_of};
+ghost use Rattle.commands.specs.System.{IsFirst, IsPut};
 ghost use Rattle.commands.specs.declared.store.StoreError.TheVariants as store_error;
 
+use crate::system::{Native, System};
 use std::alloc::{AllocError, Global};
 use std::error::Error;
 use std::io::{ErrorKind, Read, Write};
-use std::rt::Files;
-use std::{fmt, fs, io};
+use std::{fmt, io};
 
 /// How often a file, or the input of `mon`, is read from before it counts as one that never ends.
 pub const MOST_READS: u64 = 1 << 32;
@@ -63,13 +64,17 @@ impl From<io::Error> for StoreError {
 
 /// Files by their paths.
 pub trait Store {
-    ghost use Rattle.std.specs.Prelude.{◌≡◌, IfErr, MatchResult, OnOk, Option, None};
+    ghost use Rattle.std.specs.Prelude.{◌≡◌, IfErr, IfOk, MatchResult, OnOk, Option, None};
     ghost use Rattle.std.specs.declared.io.ErrorKind.{ErrorKind};
     ghost use Rattle.commands.specs.Files.{files_of};
+    ghost use Rattle.commands.specs.System.{IsFirst, IsPut, Known};
     ghost use Rattle.commands.specs.Written.{GainsOnOk, Held};
 
     // the files, where they are known
     ghost held: { Self → Option Held } = { λ _. None };
+
+    // what the files of the system have, where they are the files and that is known
+    ghost known: { Self → Option Known } = { λ _. None };
 
     // what the system said of the last call, where that failed and the system said why
     ghost failure: { Self → Option ErrorKind } = { λ _. None };
@@ -80,12 +85,16 @@ pub trait Store {
         ensures bytes { MatchResult result
             (λ bytes. (files_of (held self.old)).holds path.now bytes.items)
             ((files_of (held self.old)).unread path.now) }
+        ensures first { IfOk result (λ bytes.
+            IsFirst (known self.old) path.now most bytes.items) }
         ensures kept { held self.new ≡ held self.old }
+        ensures stays { known self.new ≡ known self.old }
         ensures done { OnOk result (failure self.new ≡ None) };
 
     /// Makes a file at `path` that has these bytes, in place of what was there.
     fn write(&mut self, path: &str, bytes: &[u8]) -> Result<(), StoreError>
         ensures wrote { GainsOnOk (held self.old) (held self.new) (path.now, bytes.now) result }
+        ensures put { OnOk result (IsPut (known self.old) (known self.new) path.now bytes.now) }
         ensures error { IfErr result ((files_of (held self.old)).unwritten path.now) }
         ensures done { OnOk result (failure self.new ≡ None) };
 
@@ -94,10 +103,10 @@ pub trait Store {
         ensures { result ≡ failure self.now };
 }
 
-/// The files of the system. A path that is not absolute starts at the working directory.
+/// The files of a system.
 #[derive(Drop)]
-pub struct Disk<'a, R> {
-    rt: &'a R,
+pub struct Disk<D> {
+    system: D,
     failure: Option<ErrorKind>,
 }
 
@@ -106,17 +115,31 @@ fn said(kind: ErrorKind) -> Option<ErrorKind> {
     if kind == ENDLESS { None } else { Some(kind) }
 }
 
-impl<'a, R> Disk<'a, R> {
+impl<'a, R> Disk<Native<'a, R>> {
     /// The files that the handle `rt` opens.
-    pub fn new(rt: &'a R) -> Disk<'a, R>
-        ensures { result.rt ≡ rt.entry }
+    pub fn new(rt: &'a R) -> Disk<Native<'a, R>>
+        ensures { result.system.rt ≡ rt.entry }
     {
-        Disk { rt, failure: None }
+        Disk::over(Native::new(rt))
+    }
+}
+
+impl<D> Disk<D> {
+    /// The files of this system.
+    pub fn over(system: D) -> Disk<D>
+        ensures { result.system ≡ system }
+    {
+        Disk {
+            system,
+            failure: None,
+        }
     }
 
     /// What came of a call. What the system says where it failed is kept, if it says anything.
     fn kept<T>(&mut self, came: io::Result<T>) -> Result<T, StoreError>
-        ensures { OnOk result (self.new.failure ≡ None) }
+        ensures failure { OnOk result (self.new.failure ≡ None) }
+        ensures value { IfOk result (λ value. came ≡ Ok value) }
+        ensures system { self.new.system ≡ self.old.system }
     {
         match came {
             Ok(value) => {
@@ -131,16 +154,18 @@ impl<'a, R> Disk<'a, R> {
     }
 }
 
-impl<'a, R: Files> Store for Disk<'a, R> {
+impl<D: System> Store for Disk<D> {
     ghost failure = { λ disk. disk.failure };
 
+    ghost known = { λ disk. D.known disk.system };
+
     fn read(&mut self, alloc: Global, path: &str, most: usize) -> Result<Vec<u8>, StoreError> {
-        let came = read_file(self.rt, alloc, path, most);
+        let came = read_file(&mut self.system, alloc, path, most);
         self.kept(came)
     }
 
     fn write(&mut self, path: &str, bytes: &[u8]) -> Result<(), StoreError> {
-        let came = write_file(self.rt, path, bytes);
+        let came = write_file(&mut self.system, path, bytes);
         self.kept(came)
     }
 
@@ -149,11 +174,18 @@ impl<'a, R: Files> Store for Disk<'a, R> {
     }
 }
 
-/// The bytes of the file of the system at a path, at most so many.
-fn read_file<R: Files>(rt: &R, alloc: Global, path: &str, most: usize) -> io::Result<Vec<u8>>
-    ensures { IfOk result (λ bytes. length bytes.items ≤ most) }
+/// The first bytes of the file of a system at a path, at most so many.
+fn read_file<D: System>(
+    system: &mut D,
+    alloc: Global,
+    path: &str,
+    most: usize,
+) -> io::Result<Vec<u8>>
+    ensures first { IfOk result (λ bytes. IsFirst (D.known system.old) path.now most bytes.items) }
+    ensures most { IfOk result (λ bytes. length bytes.items ≤ most) }
+    ensures kept { D.known system.new ≡ D.known system.old }
 {
-    let mut file = fs::open(rt, path)?;
+    let mut file = system.open(path)?;
     read_up_to(alloc, &mut file, MOST_READS, most)
 }
 
@@ -204,8 +236,11 @@ fn read_up_to<R: Read>(
     Err(io::Error::from(ENDLESS))
 }
 
-/// Makes a file of the system at a path.
-fn write_file<R: Files>(rt: &R, path: &str, bytes: &[u8]) -> io::Result<()> {
-    let mut file = fs::create(rt, path)?;
-    file.write_all(bytes)
+/// Makes a file of a system at a path, with these bytes.
+fn write_file<D: System>(system: &mut D, path: &str, bytes: &[u8]) -> io::Result<()>
+    ensures { OnOk result (IsPut (D.known system.old) (D.known system.new) path.now bytes.now) }
+{
+    let mut file = system.create(path)?;
+    file.write_all(bytes)?;
+    system.close(path, file)
 }

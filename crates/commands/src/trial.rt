@@ -1,5 +1,5 @@
 //! What comes of a run: how it ended, how that is told, and which status the program has then.
-ghost use Rattle.std.specs.Prelude.{◌≡◌, ◌++◌, IfErr, IfOk, IfSome, OnOk, map};
+ghost use Rattle.std.specs.Prelude.{◌≡◌, ◌++◌, IfErr, IfOk, IfSome, None, OnOk, false, map};
 ghost use Rattle.job_file.specs.Needs.{run_param_lent};
 ghost use Rattle.rv_listing.specs.Sinks.{Told};
 ghost use Rattle.commands.specs.Did.{did_of, place_line, place_text, status_with};
@@ -132,12 +132,17 @@ impl Trial {
         print(output, shown)
     }
 
-    /// Where a run of the image stands as it ended, where memory suffices to list the word there.
-    pub fn place(&self, alloc: Global, image: &Image) -> Option<Place>
-        ensures { IfSome result (λ place.
+    /// Where a run of the image stands as it ended, if that is `asked`, and memory suffices to list the word there.
+    pub fn place(&self, alloc: Global, asked: bool, image: &Image) -> Option<Place>
+        ensures place { IfSome result (λ place.
             place_text place ≡ place_line image.now self.now.registers.pc) }
+        ensures unasked { asked ≡ false → result ≡ None }
     {
-        place_at(alloc, image, self.registers.pc)
+        if asked {
+            place_at(alloc, image, self.registers.pc)
+        } else {
+            None
+        }
     }
 
     /// What was done where this was printed, of a run that stands at the place.

@@ -56,7 +56,7 @@ pub fn try_job<S: Store, O: Stream, E: Sink>(
         (stream (E.contents errors.new) (E.failures errors.new)) result }
 {
     on_table!(alloc, path, Command::Try, explain, store, errors; table, text =>
-        try_table(alloc, table, text, registers, store, output))
+        try_table(alloc, table, text, explain, registers, store, output))
 }
 
 /// `try` on a job's table.
@@ -64,6 +64,7 @@ fn try_table<'a, S: Store, O: Stream>(
     alloc: Global,
     table: &'a Table,
     text: &[u8],
+    explain: bool,
     registers: bool,
     store: &mut S,
     output: &mut O,
@@ -81,7 +82,7 @@ fn try_table<'a, S: Store, O: Stream>(
     let args = read_args(alloc, &passed, store)?;
     let trial = run_tried(alloc, &job, &image, args)?;
     let shown = trial.shown(alloc, registers)?;
-    let place = trial.place(alloc, &image);
+    let place = trial.place(alloc, explain, &image);
     finish(
         alloc,
         &passed,

@@ -1,6 +1,7 @@
 //! The tests, by what they try.
 
 mod assertions;
+mod drawers;
 mod known;
 mod performances;
 mod reading;
