@@ -79,8 +79,8 @@ impl System for Drawer {
     }
 }
 
-/// A drawer that has no file at a path that is asked for.
-fn drawer(alloc: Global, refused: Refused) -> Disk<Drawer> {
+/// A drawer without a file at any path that is asked for.
+fn empty_drawer(alloc: Global, refused: Refused) -> Disk<Drawer> {
     Disk::over(Drawer {
         alloc,
         path: String::new(alloc),
@@ -92,7 +92,7 @@ fn drawer(alloc: Global, refused: Refused) -> Disk<Drawer> {
 #[test]
 fn writes_and_reads_as_far_as_needed(rt: HostRuntime) {
     let alloc = rt.alloc();
-    let mut disk = drawer(alloc, Refused::Nothing);
+    let mut disk = empty_drawer(alloc, Refused::Nothing);
     given!(rt; disk.write("a", b"abc".as_slice()));
     for (most, first) in [(0, ""), (2, "ab"), (3, "abc"), (usize::MAX, "abc")] {
         let bytes = given!(rt; disk.read(alloc, "a", most));
@@ -111,11 +111,11 @@ fn tells_which_call_failed(rt: HostRuntime) {
         (Refused::Create, denied, StoreError::Failed),
         (Refused::Close, memory, StoreError::NoMemory),
     ] {
-        let mut disk = drawer(alloc, refused);
+        let mut disk = empty_drawer(alloc, refused);
         assert!(rt; disk.write("a", b"abc".as_slice()).err() == Some(error));
         assert!(rt; disk.last_failure() == Some(kind));
     }
-    let mut disk = drawer(alloc, Refused::Open);
+    let mut disk = empty_drawer(alloc, Refused::Open);
     given!(rt; disk.write("a", b"abc".as_slice()));
     assert!(rt; disk.read(alloc, "a", 3).err() == Some(StoreError::Failed));
     assert!(rt; disk.last_failure() == Some(denied));
