@@ -1,12 +1,14 @@
 //! The program, over any files, input and streams.
 ghost use Rattle.std.specs.IoError.{error_kind};
-ghost use Rattle.std.specs.Prelude.{◌≡◌, map};
+ghost use Rattle.std.specs.Process.{exit_status};
+ghost use Rattle.std.specs.Prelude.{◌≡◌, IfErr, OnOk, map};
 ghost use Rattle.clap.specs.Words.{fault_of};
 ghost use Rattle.rv_listing.specs.Sinks.{IsCounted};
 ghost use Rattle.command_line.specs.Line.{app};
 ghost use Rattle.command_line.specs.Program.{Does, IsAsAsked, IsStatusFor, IsUntouched, Stops};
-ghost use Rattle.command_line.specs.Program.{explains, status_without_words, text_without_words};
-ghost use Rattle.commands.specs.Ending.{Ends};
+ghost use Rattle.command_line.specs.Program.{explains, status_at_end, status_without_words};
+ghost use Rattle.command_line.specs.Program.{text_without_words};
+ghost use Rattle.commands.specs.Ending.{Ends, code_of};
 ghost use Rattle.commands.specs.Files.{files_of};
 ghost use Rattle.commands.specs.Streams.{IsTold, exchange, source, stream};
 
@@ -19,6 +21,7 @@ use rv_listing::put;
 use std::alloc::Global;
 use std::io;
 use std::io::ErrorKind;
+use std::process::ExitCode;
 
 /// Does what the words ask for, of which the first is the program's name: reads and writes the files
 /// in `store`, prints what came of it to `output`, and why it was refused or failed to `errors`.
@@ -105,4 +108,21 @@ pub fn end_without_words<E: Sink>(error: io::Error, errors: &mut E) -> Status
             Status::Usage
         }
     }
+}
+
+/// How the program ends, where `perform` answered a status, or the system's words were not taken, and why that is, which is told.
+pub fn end<E: Sink>(came: io::Result<Status>, errors: &mut E) -> ExitCode
+    ensures status { exit_status result ≡ code_of (status_at_end came) }
+    ensures quiet { OnOk came (stream (E.contents errors.new) (E.failures errors.new)
+        ≡ stream (E.contents errors.old) (E.failures errors.old)) }
+    ensures told { IfErr came (λ _. IsTold
+        (stream (E.contents errors.old) (E.failures errors.old))
+        (stream (E.contents errors.new) (E.failures errors.new))
+        (text_without_words (status_at_end came))) }
+{
+    let status = match came {
+        Ok(status) => status,
+        Err(error) => end_without_words(error, errors),
+    };
+    ExitCode::from(status.code())
 }

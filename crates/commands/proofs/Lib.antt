@@ -3,6 +3,7 @@ pub mod CommandLemmas
 pub mod Corollaries
 pub mod EscapedLemmas
 pub mod MonLemmas
+pub mod SourceLemmas
 pub mod TalkLemmas
 pub mod TrialLemmas
 pub mod WordLemmas

@@ -1,19 +1,15 @@
 -- Where a run is left by `mon`, and why lines are not answered.
-use Rattle.std.proofs.Common.{◌≡◌, ◌⊎◌, ◌∙◌, ◌++◌, ◌+◌, ◌-◌, ◌^◌, ◌≤◌, ℕ, Bool, true, false, List, [], Option, Some, None, IfSome, inl, inr, refl, subst, arith}
-use Rattle.std.proofs.lemmas.Bool.{cases_lt}
-use Rattle.std.specs.declared.io.ErrorKind.{ErrorKind}
-use Rattle.std.specs.declared.io.ErrorKind.TheVariants.{Interrupted}
+use Rattle.std.proofs.Common.{◌≡◌, ◌∙◌, ◌++◌, ℕ, List, [], Option, Some, None, IfSome, subst}
 use Rattle.block_checker.specs.Accepted.{AcceptedView}
 use Rattle.region_mem.specs.Memory.{args_of}
 use Rattle.region_mem.specs.Parameter.{Argument}
-use Rattle.rv_listing.specs.Sinks.{IsCounted, counted}
 use Rattle.sandbox_run.specs.Session.{IsOpened, SessionView, open_fault}
 use Rattle.sandbox_run.specs.Stops.{IsStop}
 use Rattle.sandbox_run.specs.declared.outcome.OpenError.{OpenError}
 use Rattle.machine.specs.Machine.{Machine}
 use Rattle.vreg_groups.specs.declared.policies.Agnostic.{Agnostic}
 use Rattle.commands.specs.Mons.{HasPrinted, IsBroken, IsStopped}
-use Rattle.commands.specs.Streams.{Exchange, Stream, is_failure}
+use Rattle.commands.specs.Streams.{Exchange, Stream}
 use Rattle.commands.specs.Talks.{AreTold}
 use Rattle.commands.specs.declared.stop.Stop.{Stop}
 use Rattle.commands.specs.declared.stop.Stop.TheVariants as stop
@@ -55,32 +51,3 @@ broken_after had now has (stop.Certificate error) printed is = absurd is
 broken_after had now has (stop.Check error) printed is = absurd is
 broken_after had now has (stop.Make error) printed is = absurd is
 broken_after had now has (stop.Open error) printed is = absurd is
-
--- ---- how often the input was read
-
--- one more read
-pub reads_more : (first k now then : ℕ) → (first + k ≤ now) ⊎ (2 ^ 64 - 1 ≤ now) → then ≡ counted true now → (first + (k + 1) ≤ then) ⊎ (2 ^ 64 - 1 ≤ then)
-reads_more first k now then (inl some) is = elim (cases_lt now (2 ^ 64 - 1)) [
-  | inl below ↦ inl (grind arith)
-  | inr most ↦ inr (grind arith)
-]
-reads_more first k now then (inr most) is = inr (grind arith)
-
-pub failures_more : (failed : Bool) (first now then : ℕ) → first ≤ now → then ≡ counted failed now → first ≤ then
-failures_more true first now then some is = grind arith
-failures_more false first now then some is = grind arith
-
-pub failed_unless : (kind : ErrorKind) → (kind ≡ Interrupted → ⊥) → is_failure kind ≡ true
-failed_unless Interrupted other = absurd (other refl)
-failed_unless _ other = refl
-
--- a read that failed
-pub one_failed : (failed : Bool) (first now then : ℕ) → first ≤ now → then ≡ counted failed now → failed ≡ true → IsCounted first then
-one_failed true first now then some is fails = elim (cases_lt now (2 ^ 64 - 1)) [
-  | inl below ↦ inl (grind arith)
-  | inr most ↦ elim (cases_lt first (2 ^ 64 - 1)) [
-    | inl less ↦ inl (grind arith)
-    | inr all ↦ inr all
-  ]
-]
-one_failed false first now then some is fails = cc

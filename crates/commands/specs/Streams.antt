@@ -1,5 +1,5 @@
 -- What is printed and read, and what a subcommand leaves.
-use Rattle.std.specs.Prelude.{◌≡◌, ◌⊎◌, ◌+◌, ◌≤◌, ◌-◌, ◌^◌, Bool, true, false, ℕ, List, Option, Result, Ok, Err}
+use Rattle.std.specs.Prelude.{◌≡◌, ◌⊎◌, ◌+◌, ◌≤◌, ◌-◌, ◌^◌, Bool, true, false, ℕ, List, Option, Some, None, Result, Ok, Err}
 use Rattle.std.specs.IoError.{error_kind}
 use Rattle.std.specs.Io.KnownBytes.{Appends}
 use Rattle.std.specs.declared.io.Error.{Error}
@@ -55,6 +55,12 @@ has_failed (Err error) = is_failure (error_kind error)
 abbrev pub IsUnread : ℕ → Input → Input → Type 0
 IsUnread most before after = IsCounted before.failures after.failures
     ⊎ ((before.reads + most ≤ after.reads) ⊎ (2 ^ 64 - 1 ≤ after.reads))
+
+-- the same of a file, by the counts of what it is read from, where these are known
+abbrev pub IsGivenUp : ℕ → Option Input → Option Input → Type 0
+IsGivenUp most None after = Unit {0}
+IsGivenUp most (Some before) None = ⊥
+IsGivenUp most (Some before) (Some after) = IsUnread most before after
 
 -- ---- what is left
 

@@ -1,6 +1,6 @@
 //! `check`: an image against its certificate, and the bound of its runs.
-ghost use Rattle.std.specs.Prelude.{MatchResult};
-ghost use Rattle.rv_listing.specs.Sinks.{Told};
+ghost use Rattle.std.specs.Prelude.{MatchResult, OnOk};
+ghost use Rattle.rv_listing.specs.Sinks.{IsPassedOn, Told};
 ghost use Rattle.cert_note.specs.Values.{budget_text, product_text};
 ghost use Rattle.commands.specs.Checks.{Checks, StopsCheck, bound_line, second_text};
 ghost use Rattle.commands.specs.Ending.{Ends, plain};
@@ -111,8 +111,9 @@ fn put_bound<O: Sink>(budget: &Budget, output: &mut O) -> Result<(), Failed>
 
 /// Prints the same.
 pub fn print_bound<O: Stream>(budget: &Budget, output: &mut O) -> Result<(), Failed>
-    ensures { Told result (O.contents output.old) (O.contents output.new)
+    ensures told { Told result (O.contents output.old) (O.contents output.new)
         (O.failures output.old) (O.failures output.new) (bound_line budget.now) }
+    ensures passed { OnOk result (IsPassedOn (O.passed output.new) (O.contents output.new)) }
 {
     put_bound(budget, output)?;
     output.pass_on()

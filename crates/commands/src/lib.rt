@@ -37,7 +37,7 @@ pub use memory::{Memory, check_memory, make_memory, mon_memory, run_memory, try_
 pub use mons::{mon_job, mon_job_within};
 pub use runs::run_job;
 pub use rv_listing::{Failed, Over, Sink, Stream};
-pub use sources::{Counted, Source};
+pub use sources::{Counted, Counts, Source};
 pub use stop::{Status, Stop};
 pub use store::{Disk, MOST_READS, Store, StoreError, read_some, reads_in_numbers};
 pub use system::{Native, System};

@@ -1,6 +1,7 @@
 //! Lines of the input, each answered before the next.
 ghost use Rattle.std.specs.Prelude.{◌≡◌, ◌++◌, ◌∷◌, [], ℕ, List, IfErr, IfOk, OnOk};
 ghost use Rattle.monitor.specs.Commands.{order_of};
+ghost use Rattle.rv_listing.specs.Sinks.{IsPassedOn};
 ghost use Rattle.commands.specs.Halt.{stop_of};
 ghost use Rattle.commands.specs.Mons.{HasPrinted, IsBroken, IsOfInput, IsUnanswered};
 ghost use Rattle.commands.specs.Streams.{Prints, exchange, source, stream};
@@ -95,6 +96,7 @@ fn answer<'a, const VLENB: usize, O: Stream>(
         × IsAnswered VLENB line.now
         (watch monitor.old.breakpoints.items monitor.old.session.now)
         (watch monitor.new.breakpoints.items monitor.new.session.now) text f) }
+    ensures passed { OnOk result (IsPassedOn (O.passed output.new) (O.contents output.new)) }
     ensures unanswered { IfErr result (λ halt. IsBroken
         (stream (O.contents output.old) (O.failures output.old))
         (stream (O.contents output.new) (O.failures output.new)) (stop_of halt)) }

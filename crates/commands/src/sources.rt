@@ -1,5 +1,6 @@
-//! What the input of `mon` comes from.
-ghost use Rattle.std.specs.Prelude.{◌≡◌};
+//! What the input of `mon` comes from, and how reads are counted.
+ghost use Rattle.std.specs.Prelude.{◌≡◌, true};
+ghost use Rattle.rv_listing.specs.Sinks.{counted};
 ghost use Rattle.commands.specs.Streams.{has_failed};
 
 use std::io;
@@ -32,24 +33,42 @@ pub trait Source {
             ≡ counted (has_failed result) (failures self.old) };
 }
 
-/// Any reader, with a count of its reads, and of those that failed.
-#[derive(Drop)]
-pub struct Counted<R> {
-    reader: R,
+/// How often something was read from, and how many calls failed, each up to 2^64 - 1.
+#[derive(Clone, Copy, Debug, PartialEq, Eq)]
+pub struct Counts {
     reads: u64,
     failures: u64,
 }
 
-impl<R> Counted<R> {
-    /// The reader, which was not read from.
-    pub fn new(reader: R) -> Counted<R>
-        ensures { result ≡ record { reader = reader; reads = 0; failures = 0 } }
+impl Counts {
+    /// Nothing was counted.
+    pub fn none() -> Counts
+        ensures { result ≡ record { reads = 0; failures = 0 } }
     {
-        Counted {
-            reader,
+        Counts {
             reads: 0,
             failures: 0,
         }
+    }
+
+    /// Counts a read. One that was interrupted may be begun again, and does not count as failed.
+    pub fn count(&mut self, came: &io::Result<usize>)
+        ensures reads { self.new.reads ≡ counted true self.old.reads }
+        ensures failures { self.new.failures
+            ≡ counted (has_failed came.now) self.old.failures }
+    {
+        self.reads = self.reads.saturating_add(1);
+        if has_failed(came) {
+            self.count_failure();
+        }
+    }
+
+    /// Counts a call that failed.
+    pub fn count_failure(&mut self)
+        ensures reads { self.new.reads ≡ self.old.reads }
+        ensures failures { self.new.failures ≡ counted true self.old.failures }
+    {
+        self.failures = self.failures.saturating_add(1);
     }
 }
 
@@ -66,19 +85,36 @@ fn has_failed(came: &io::Result<usize>) -> bool
     }
 }
 
+/// Any reader, with counts of its reads.
+#[derive(Drop)]
+pub struct Counted<R> {
+    reader: R,
+    counts: Counts,
+}
+
+impl<R> Counted<R> {
+    /// The reader, which was not read from.
+    pub fn new(reader: R) -> Counted<R>
+        ensures reader { result.reader ≡ reader }
+        ensures counts { result.counts ≡ record { reads = 0; failures = 0 } }
+    {
+        Counted {
+            reader,
+            counts: Counts::none(),
+        }
+    }
+}
+
 impl<R: Read> Source for Counted<R> {
     ghost remaining = { λ counted. R.remaining counted.reader };
 
-    ghost reads = { λ counted. counted.reads };
+    ghost reads = { λ counted. counted.counts.reads };
 
-    ghost failures = { λ counted. counted.failures };
+    ghost failures = { λ counted. counted.counts.failures };
 
     fn read(&mut self, buf: &mut [u8]) -> io::Result<usize> {
         let came = self.reader.read(buf);
-        self.reads = self.reads.saturating_add(1);
-        if has_failed(&came) {
-            self.failures = self.failures.saturating_add(1);
-        }
+        self.counts.count(&came);
         came
     }
 }

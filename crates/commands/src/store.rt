@@ -1,8 +1,11 @@
 //! Where a job's files are read and written.
 ghost use Rattle.std.specs.Io.KnownBytes.{Consumes, IsAtEnd};
-ghost use Rattle.std.specs.Prelude.{◌≡◌, ◌≤◌, ◌<◌, IfOk, None, Ok, OnOk, length};
+ghost use Rattle.std.specs.Prelude.{◌≡◌, ◌≤◌, ◌<◌, IfErr, IfOk, None, Ok, OnOk, Some, length};
+ghost use Rattle.std.specs.Result.{is_err};
 ghost use Rattle.std.specs.IoError.{error_kind};
 ghost use Rattle.commands.specs.Ending.{store_error_of};
+ghost use Rattle.commands.specs.Files.{if_failed};
+ghost use Rattle.commands.specs.Streams.{IsUnread, source};
 ghost use Rattle.commands.specs.System.{IsFirst, IsPut};
 ghost use Rattle.commands.specs.declared.store.StoreError.TheVariants as store_error;
 
@@ -66,7 +69,8 @@ impl From<io::Error> for StoreError {
 pub trait Store {
     ghost use Rattle.std.specs.Prelude.{◌≡◌, IfErr, IfOk, MatchResult, OnOk, Option, None};
     ghost use Rattle.std.specs.declared.io.ErrorKind.{ErrorKind};
-    ghost use Rattle.commands.specs.Files.{files_of};
+    ghost use Rattle.commands.specs.Files.{files_of, if_failed};
+    ghost use Rattle.commands.specs.Streams.{Input, IsGivenUp};
     ghost use Rattle.commands.specs.System.{IsFirst, IsPut, Known};
     ghost use Rattle.commands.specs.Written.{GainsOnOk, Held};
 
@@ -75,6 +79,9 @@ pub trait Store {
 
     // what the files of the system have, where they are the files and that is known
     ghost known: { Self → Option Known } = { λ _. None };
+
+    // how often files were read from, and how many calls failed, where that is counted
+    ghost input: { Self → Option Input } = { λ _. None };
 
     // what the system said of the last call, where that failed and the system said why
     ghost failure: { Self → Option ErrorKind } = { λ _. None };
@@ -89,6 +96,8 @@ pub trait Store {
             IsFirst (known self.old) path.now most bytes.items) }
         ensures kept { held self.new ≡ held self.old }
         ensures stays { known self.new ≡ known self.old }
+        ensures unread { IfErr result (λ error. if_failed error
+            (IsGivenUp MOST_READS (input self.old) (input self.new))) }
         ensures done { OnOk result (failure self.new ≡ None) };
 
     /// Makes a file at `path` that has these bytes, in place of what was there.
@@ -139,6 +148,9 @@ impl<D> Disk<D> {
     fn kept<T>(&mut self, came: io::Result<T>) -> Result<T, StoreError>
         ensures failure { OnOk result (self.new.failure ≡ None) }
         ensures value { IfOk result (λ value. came ≡ Ok value) }
+        ensures error { IfErr result (λ reason.
+            IfErr came (λ error. reason ≡ store_error_of (error_kind error))) }
+        ensures same { is_err result ≡ is_err came }
         ensures system { self.new.system ≡ self.old.system }
     {
         match came {
@@ -159,8 +171,10 @@ impl<D: System> Store for Disk<D> {
 
     ghost known = { λ disk. D.known disk.system };
 
+    ghost input = { λ disk. Some (source None (D.reads disk.system) (D.failures disk.system)) };
+
     fn read(&mut self, alloc: Global, path: &str, most: usize) -> Result<Vec<u8>, StoreError> {
-        let came = read_file(&mut self.system, alloc, path, most);
+        let came = read_file(&mut self.system, alloc, path, MOST_READS, most);
         self.kept(came)
     }
 
@@ -174,50 +188,63 @@ impl<D: System> Store for Disk<D> {
     }
 }
 
-/// The first bytes of the file of a system at a path, at most so many.
+/// The first bytes of the file of a system at a path: at most `most` of them, in at most `reads`
+/// reads. Where there are fewer, the last of these finds the end.
+pub fn read_some<D: System>(
+    system: &mut D,
+    alloc: Global,
+    path: &str,
+    reads: u64,
+    most: usize,
+) -> Result<Vec<u8>, StoreError>
+    ensures first { IfOk result (λ bytes. IsFirst (D.known system.old) path.now most bytes.items) }
+    ensures most { IfOk result (λ bytes. length bytes.items ≤ most) }
+    ensures kept { D.known system.new ≡ D.known system.old }
+    ensures unread { IfErr result (λ error. if_failed error (IsUnread reads
+        (source None (D.reads system.old) (D.failures system.old))
+        (source None (D.reads system.new) (D.failures system.new)))) }
+{
+    Ok(read_file(system, alloc, path, reads, most)?)
+}
+
+/// The same, with what the system says where it fails.
 fn read_file<D: System>(
     system: &mut D,
     alloc: Global,
     path: &str,
+    reads: u64,
     most: usize,
 ) -> io::Result<Vec<u8>>
     ensures first { IfOk result (λ bytes. IsFirst (D.known system.old) path.now most bytes.items) }
     ensures most { IfOk result (λ bytes. length bytes.items ≤ most) }
     ensures kept { D.known system.new ≡ D.known system.old }
+    ensures unread { IfErr result (λ error. if_failed (store_error_of (error_kind error))
+        (IsUnread reads
+        (source None (D.reads system.old) (D.failures system.old))
+        (source None (D.reads system.new) (D.failures system.new)))) }
 {
     let mut file = system.open(path)?;
-    read_up_to(alloc, &mut file, MOST_READS, most)
+    read_opened(system, &mut file, alloc, reads, most)
 }
 
-/// The first bytes that a reader gives, at most `most` of them, in at most `reads` reads. Where there are fewer, the last of
-/// these finds the end.
-pub fn read_some<R: Read>(
+/// The first bytes of a file of a system that is open, behind those that were read before.
+fn read_opened<D: System>(
+    system: &mut D,
+    file: &mut D::Reader,
     alloc: Global,
-    reader: &mut R,
-    reads: u64,
-    most: usize,
-) -> Result<Vec<u8>, StoreError>
-    ensures bytes { IfOk result (λ bytes.
-        Consumes (R.remaining reader.old) (R.remaining reader.new) bytes.items) }
-    ensures most { IfOk result (λ bytes. length bytes.items ≤ most) }
-    ensures end { IfOk result (λ bytes. length bytes.items < most
-        → IsAtEnd (R.remaining reader.new)) }
-{
-    Ok(read_up_to(alloc, reader, reads, most)?)
-}
-
-/// The same, with what the system says where it fails.
-fn read_up_to<R: Read>(
-    alloc: Global,
-    reader: &mut R,
     reads: u64,
     most: usize,
 ) -> io::Result<Vec<u8>>
     ensures bytes { IfOk result (λ bytes.
-        Consumes (R.remaining reader.old) (R.remaining reader.new) bytes.items) }
+        Consumes (D.Reader.remaining file.old) (D.Reader.remaining file.new) bytes.items) }
     ensures most { IfOk result (λ bytes. length bytes.items ≤ most) }
     ensures end { IfOk result (λ bytes. length bytes.items < most
-        → IsAtEnd (R.remaining reader.new)) }
+        → IsAtEnd (D.Reader.remaining file.new)) }
+    ensures kept { D.known system.new ≡ D.known system.old }
+    ensures unread { IfErr result (λ error. if_failed (store_error_of (error_kind error))
+        (IsUnread reads
+        (source None (D.reads system.old) (D.failures system.old))
+        (source None (D.reads system.new) (D.failures system.new)))) }
 {
     let mut bytes = Vec::new(alloc);
     let mut chunk = [0u8; 4096];
@@ -226,7 +253,7 @@ fn read_up_to<R: Read>(
         if room == 0 {
             return Ok(bytes);
         }
-        match reader.read(&mut chunk[..room]) {
+        match system.read(file, &mut chunk[..room]) {
             Ok(0) => return Ok(bytes),
             Ok(n) => bytes.extend_from_slice(&chunk[..n])?,
             Err(error) if error.kind() == ErrorKind::Interrupted => {}

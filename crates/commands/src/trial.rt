@@ -1,7 +1,7 @@
 //! What comes of a run: how it ended, how that is told, and which status the program has then.
 ghost use Rattle.std.specs.Prelude.{◌≡◌, ◌++◌, IfErr, IfOk, IfSome, None, OnOk, false, map};
 ghost use Rattle.job_file.specs.Needs.{run_param_lent};
-ghost use Rattle.rv_listing.specs.Sinks.{Told};
+ghost use Rattle.rv_listing.specs.Sinks.{IsPassedOn, Told};
 ghost use Rattle.commands.specs.Did.{did_of, place_line, place_text, status_with};
 ghost use Rattle.commands.specs.Ending.{plain, status_of_end};
 ghost use Rattle.commands.specs.Files.{IsUnfinished, files_of, outs_of};
@@ -125,8 +125,9 @@ impl Trial {
 
     /// Prints how the run ended, and behind it these lines.
     fn print<O: Stream>(&self, shown: &[u8], output: &mut O) -> Result<(), Failed>
-        ensures { Told result (O.contents output.old) (O.contents output.new)
+        ensures told { Told result (O.contents output.old) (O.contents output.new)
             (O.failures output.old) (O.failures output.new) (line_of self.now ++ shown.now) }
+        ensures passed { OnOk result (IsPassedOn (O.passed output.new) (O.contents output.new)) }
     {
         self.put_line(output)?;
         print(output, shown)
@@ -195,6 +196,7 @@ pub fn finish<'a, S: Store, O: Stream>(
         (line_of trial.now ++ shown.now)) }
     ensures wrote { OnOk (plain result) (Gains (S.held store.old) (S.held store.new)
         (outs_of (map run_param_lent params.now) trial.now.args.places)) }
+    ensures passed { OnOk result (IsPassedOn (O.passed output.new) (O.contents output.new)) }
     ensures unfinished { IfErr (plain result) (IsUnfinished (files_of (S.held store.old))
         (change (S.held store.old) (S.held store.new)
         (stream (O.contents output.old) (O.failures output.old))

@@ -17,4 +17,4 @@ mod sink;
 
 pub use listing::put_listing;
 pub use pieces::{Piece, put_all};
-pub use sink::{Failed, Over, Sink, Stream, print, put};
+pub use sink::{Failed, Outlet, Over, Sink, Stream, print, put};

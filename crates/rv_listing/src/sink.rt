@@ -1,8 +1,8 @@
 //! Where texts are written to.
 ghost use Rattle.std.specs.Io.KnownBytes.{WriteAppends};
-ghost use Rattle.std.specs.Prelude.{◌≡◌, ◌≤◌, IfOk, length};
+ghost use Rattle.std.specs.Prelude.{◌≡◌, ◌≤◌, IfOk, OnOk, length};
 ghost use Rattle.std.specs.Result.{is_err};
-ghost use Rattle.rv_listing.specs.Sinks.{Told, counted, has_failed};
+ghost use Rattle.rv_listing.specs.Sinks.{IsPassedOn, Told, counted, has_failed};
 
 use std::error::Error;
 use std::io::{ErrorKind, Write};
@@ -49,16 +49,55 @@ pub trait Sink {
 
 /// A sink that passes on what it has taken.
 pub trait Stream: Sink {
+    ghost use Rattle.std.specs.Prelude.{ℕ, List, Option, None};
     ghost use Rattle.std.specs.Io.KnownBytes.{Keeps};
 
-    /// Passes on what it has taken. Where it does not, that counts as a failed write.
+    // The bytes that it has passed on, where they are known.
+    ghost passed: { Self → Option (List ℕ) } = { λ _. None };
+
+    /// Passes on all that it has taken. Where it does not, that counts as a failed write.
     fn pass_on(&mut self) -> Result<(), Failed>
         ensures bytes { Keeps (Self.contents self.old) (Self.contents self.new) }
+        ensures passed { OnOk result (IsPassedOn (passed self.new) (Self.contents self.new)) }
         ensures counts { Self.failures self.new
             ≡ counted (is_err result) (Self.failures self.old) };
 }
 
-/// Any writer, with a count of the writes that failed.
+/// What a stream writes to, which may hold bytes back until it is flushed.
+pub trait Outlet {
+    ghost use Rattle.std.specs.Prelude.{ℕ, List, Option, None};
+    ghost use Rattle.std.specs.Io.KnownBytes.{Keeps, WriteAppends};
+
+    // The bytes that it has taken, where they are known.
+    ghost contents: { Self → Option (List ℕ) } = { λ _. None };
+
+    // Those that it holds back no more, where they are known.
+    ghost passed: { Self → Option (List ℕ) } = { λ _. None };
+
+    /// Takes some of the bytes, from the first on, and answers how many.
+    fn write(&mut self, bytes: &[u8]) -> io::Result<usize>
+        ensures bound { IfOk result (λ n. n ≤ length bytes.now) }
+        ensures bytes { WriteAppends (contents self.old) (contents self.new) result bytes.now };
+
+    /// Holds none of its bytes back any more.
+    fn flush(&mut self) -> io::Result<()>
+        ensures bytes { Keeps (contents self.old) (contents self.new) }
+        ensures passed { OnOk result (IsPassedOn (passed self.new) (contents self.new)) };
+}
+
+impl<W: Write> Outlet for W {
+    ghost contents = { λ writer. W.contents writer };
+
+    fn write(&mut self, bytes: &[u8]) -> io::Result<usize> {
+        Write::write(self, bytes)
+    }
+
+    fn flush(&mut self) -> io::Result<()> {
+        Write::flush(self)
+    }
+}
+
+/// Any outlet, with a count of the writes that failed.
 #[derive(Drop)]
 pub struct Over<T> {
     writer: T,
@@ -84,7 +123,7 @@ impl<T> Over<T> {
     }
 }
 
-impl<T: Write> Sink for Over<T> {
+impl<T: Outlet> Sink for Over<T> {
     ghost contents = { λ over. T.contents over.writer };
 
     ghost failures = { λ over. over.failures };
@@ -104,7 +143,9 @@ impl<T: Write> Sink for Over<T> {
     }
 }
 
-impl<T: Write> Stream for Over<T> {
+impl<T: Outlet> Stream for Over<T> {
+    ghost passed = { λ over. T.passed over.writer };
+
     fn pass_on(&mut self) -> Result<(), Failed> {
         match self.writer.flush() {
             Ok(()) => Ok(()),
@@ -117,7 +158,7 @@ impl<T: Write> Stream for Over<T> {
 }
 
 /// Writes some of the bytes. A write that is interrupted is begun again.
-fn write_some<W: Write>(writer: &mut W, bytes: &[u8]) -> io::Result<usize>
+fn write_some<W: Outlet>(writer: &mut W, bytes: &[u8]) -> io::Result<usize>
     ensures bound { IfOk result (λ n. n ≤ length bytes.now) }
     ensures bytes { WriteAppends (W.contents writer.old) (W.contents writer.new) result bytes.now }
 {
@@ -146,10 +187,11 @@ pub fn put<S: Sink>(out: &mut S, text: &[u8]) -> Result<(), Failed>
     Ok(())
 }
 
-/// Writes all bytes of a text, and has the stream pass them on.
+/// Writes all bytes of a text, and has the stream pass on all that it has taken.
 pub fn print<S: Stream>(out: &mut S, text: &[u8]) -> Result<(), Failed>
-    ensures { Told result (S.contents out.old) (S.contents out.new)
+    ensures told { Told result (S.contents out.old) (S.contents out.new)
         (S.failures out.old) (S.failures out.new) text.now }
+    ensures passed { OnOk result (IsPassedOn (S.passed out.new) (S.contents out.new)) }
 {
     put(out, text)?;
     out.pass_on()

@@ -5,7 +5,7 @@
 //! `run` takes. Each prints what came of it.
 #![tactic(auto)]
 
-use command_line::{end_without_words, perform};
+use command_line::{end, perform};
 use commands::{Counted, Disk, Over, Status};
 use std::alloc::Global;
 use std::io::{IsTerminal, Read, Write};
@@ -47,11 +47,7 @@ impl<R: Read, E: Write> Read for Prompting<R, E> {
 }
 
 fn main(rt: HostRuntime) -> ExitCode {
-    let status = match answer(&rt) {
-        Ok(status) => status,
-        Err(error) => end_without_words(error, &mut Over::new(rt.stderr())),
-    };
-    ExitCode::from(status.code())
+    end(answer(&rt), &mut Over::new(rt.stderr()))
 }
 
 /// Performs the command line that the system passed on, which has to be UTF-8.

@@ -1,6 +1,6 @@
 //! `Disk` over a system whose reader gives one byte at a time, and that can fail at each of its calls.
 use crate::tests::assertions::given;
-use commands::{Disk, Store, StoreError, System};
+use commands::{Counts, Disk, Store, StoreError, System};
 use std::alloc::Global;
 use std::io;
 use std::io::{ErrorKind, Read};
@@ -39,6 +39,7 @@ struct Drawer {
     path: String,
     bytes: Vec<u8>,
     refused: Refused,
+    counts: Counts,
 }
 
 impl Drawer {
@@ -50,6 +51,16 @@ impl Drawer {
             Ok(())
         }
     }
+
+    /// What reads the file at a path.
+    fn slow(&self, path: &str) -> io::Result<Slow> {
+        self.unless(Refused::Open, ErrorKind::PermissionDenied)?;
+        if self.path.as_str() != path {
+            return Err(io::Error::from(ErrorKind::NotFound));
+        }
+        let bytes = Vec::from_slice(self.alloc, self.bytes.as_slice())?;
+        Ok(Slow { bytes, done: 0 })
+    }
 }
 
 impl System for Drawer {
@@ -57,13 +68,22 @@ impl System for Drawer {
 
     type Writer = Vec<u8>;
 
+    ghost reads = { λ drawer. drawer.counts.reads };
+
+    ghost failures = { λ drawer. drawer.counts.failures };
+
     fn open(&mut self, path: &str) -> io::Result<Slow> {
-        self.unless(Refused::Open, ErrorKind::PermissionDenied)?;
-        if self.path.as_str() != path {
-            return Err(io::Error::from(ErrorKind::NotFound));
+        let came = self.slow(path);
+        if came.is_err() {
+            self.counts.count_failure();
         }
-        let bytes = Vec::from_slice(self.alloc, self.bytes.as_slice())?;
-        Ok(Slow { bytes, done: 0 })
+        came
+    }
+
+    fn read(&mut self, file: &mut Slow, buf: &mut [u8]) -> io::Result<usize> {
+        let came = file.read(buf);
+        self.counts.count(&came);
+        came
     }
 
     fn create(&mut self, _path: &str) -> io::Result<Vec<u8>> {
@@ -86,6 +106,7 @@ fn empty_drawer(alloc: Global, refused: Refused) -> Disk<Drawer> {
         path: String::new(alloc),
         bytes: Vec::new(alloc),
         refused,
+        counts: Counts::none(),
     })
 }
 

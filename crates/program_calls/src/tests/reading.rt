@@ -1,12 +1,15 @@
-//! How a file is read, to its end or to as many bytes as are needed.
+//! How a file of a system is read, to its end or to as many bytes as are needed.
 use crate::tests::assertions::given;
-use commands::{MOST_READS, StoreError, needs_in_numbers, read_some, reads_in_numbers};
+use commands::{
+    Counts, Disk, MOST_READS, Store, StoreError, System, needs_in_numbers, read_some,
+    reads_in_numbers,
+};
 use std::alloc::Global;
 use std::io;
-use std::io::Read;
+use std::io::{ErrorKind, Read};
 
 /// Gives one byte at each read, `left` times. After that it is at its end.
-#[derive(Drop)]
+#[derive(Clone, Copy, Drop)]
 struct Drip {
     left: u64,
 }
@@ -23,7 +26,7 @@ impl Read for Drip {
 }
 
 /// Is interrupted once, gives a byte, and then fails.
-#[derive(Drop)]
+#[derive(Clone, Copy, Drop)]
 struct Broken {
     reads: u8,
 }
@@ -32,19 +35,64 @@ impl Read for Broken {
     fn read(&mut self, buf: &mut [u8]) -> io::Result<usize> {
         self.reads = self.reads.saturating_add(1);
         match self.reads {
-            1 => Err(io::Error::from(io::ErrorKind::Interrupted)),
+            1 => Err(io::Error::from(ErrorKind::Interrupted)),
             2 if !buf.is_empty() => {
                 buf[0] = 7;
                 Ok(1)
             }
-            _ => Err(io::Error::from(io::ErrorKind::Other)),
+            _ => Err(io::Error::from(ErrorKind::NotConnected)),
         }
+    }
+}
+
+/// A system that has this reader at each path.
+#[derive(Drop)]
+struct Everywhere<R> {
+    reader: R,
+    counts: Counts,
+}
+
+impl<R> Everywhere<R> {
+    fn new(reader: R) -> Everywhere<R> {
+        Everywhere {
+            reader,
+            counts: Counts::none(),
+        }
+    }
+}
+
+impl<R: Read + Copy + Drop> System for Everywhere<R> {
+    type Reader = R;
+
+    type Writer = Vec<u8>;
+
+    ghost reads = { λ system. system.counts.reads };
+
+    ghost failures = { λ system. system.counts.failures };
+
+    fn open(&mut self, _path: &str) -> io::Result<R> {
+        Ok(self.reader)
+    }
+
+    fn read(&mut self, file: &mut R, buf: &mut [u8]) -> io::Result<usize> {
+        let came = file.read(buf);
+        self.counts.count(&came);
+        came
+    }
+
+    fn create(&mut self, _path: &str) -> io::Result<Vec<u8>> {
+        Err(io::Error::from(ErrorKind::PermissionDenied))
+    }
+
+    fn close(&mut self, _path: &str, _file: Vec<u8>) -> io::Result<()> {
+        Ok(())
     }
 }
 
 /// How many bytes are read from a reader that gives so many, in at most eight reads and as far as `most`, or why they are not.
 fn read_of(alloc: Global, left: u64, most: usize) -> Result<usize, StoreError> {
-    Ok(read_some(alloc, &mut Drip { left }, 8, most)?.len())
+    let mut system = Everywhere::new(Drip { left });
+    Ok(read_some(&mut system, alloc, "a", 8, most)?.len())
 }
 
 #[test]
@@ -70,8 +118,9 @@ fn reads_so_often_at_most(rt: HostRuntime) {
 
 #[test]
 fn fails_as_the_reader_does(rt: HostRuntime) {
-    let broken = read_some(rt.alloc(), &mut Broken { reads: 0 }, 8, 9).err();
-    assert!(rt; broken == Some(StoreError::Failed));
+    let mut disk = Disk::over(Everywhere::new(Broken { reads: 0 }));
+    assert!(rt; disk.read(rt.alloc(), "a", 9).err() == Some(StoreError::Failed));
+    assert!(rt; disk.last_failure() == Some(ErrorKind::NotConnected));
 }
 
 #[test]

@@ -1,11 +1,11 @@
 //! A store without memory, and words that the system does not give.
 use crate::tests::performances::performed;
-use command_line::end_without_words;
+use command_line::{end, end_without_words};
 use commands::{Over, Status, Store, StoreError};
 use std::alloc::Global;
 use std::io;
 use std::io::ErrorKind;
-use std::process::Abort;
+use std::process::{Abort, ExitCode};
 
 /// Has no memory for any file, whatever the system says.
 #[derive(Drop)]
@@ -57,4 +57,17 @@ fn ends_without_words_of_the_system(rt: HostRuntime) {
         "error: the words are not UTF-8\n",
     );
     expect_end(rt, alloc, memory, Status::Memory, "out of memory\n");
+}
+
+#[test]
+fn ends_with_the_code_of_a_status(rt: HostRuntime) {
+    let mut errors = Over::new(Vec::new(rt.alloc()));
+    for (status, code) in [(Status::Done, 0), (Status::Usage, 2), (Status::Stopped, 5)] {
+        assert!(rt; end(Ok(status), &mut errors) == ExitCode::from(code));
+    }
+    assert!(rt; errors.into_inner().is_empty());
+    let mut errors = Over::new(Vec::new(rt.alloc()));
+    let memory = io::Error::from(ErrorKind::OutOfMemory);
+    assert!(rt; end(Err(memory), &mut errors) == ExitCode::from(4u8));
+    assert!(rt; errors.into_inner().as_slice() == b"out of memory\n".as_slice());
 }

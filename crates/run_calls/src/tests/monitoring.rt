@@ -9,10 +9,11 @@ use crate::tests::sessions::args;
 use block_checker::Accepted;
 use cert_note::Vlen;
 use monitor::{Flow, MonError, Monitor};
-use rv_listing::{Failed, Over, Piece, Sink, put_all, put_listing};
+use rv_listing::{Failed, Outlet, Over, Piece, Sink, Stream, print, put_all, put_listing};
 use sample_kernels::RAISE;
 use sandbox_run::Session;
 use std::alloc::Global;
+use std::io;
 use std::process::Abort;
 use vreg_groups::Agnostic;
 
@@ -49,6 +50,51 @@ impl Sink for Recorder {
         }
         self.room -= n;
         Ok(n)
+    }
+}
+
+/// Holds what it takes back until it is flushed, which can fail.
+#[derive(Drop)]
+struct Buffered {
+    held: Vec<u8>,
+    passed: usize,
+    fails: bool,
+}
+
+impl Outlet for Buffered {
+    ghost use Rattle.std.specs.Prelude.{Some, take};
+
+    ghost contents = { λ b. Some b.held.items };
+
+    ghost passed = { λ b. Some (take b.passed b.held.items) };
+
+    fn write(&mut self, bytes: &[u8]) -> io::Result<usize> {
+        self.held.extend_from_slice(bytes)?;
+        Ok(bytes.len())
+    }
+
+    fn flush(&mut self) -> io::Result<()> {
+        if self.fails {
+            return Err(io::Error::from(io::ErrorKind::BrokenPipe));
+        }
+        self.passed = self.held.len();
+        Ok(())
+    }
+}
+
+#[test]
+fn what_is_printed_is_passed_on(rt: HostRuntime) {
+    for (fails, result, passed) in [(false, Ok(()), 2), (true, Err(Failed), 0)] {
+        let mut out = Over::new(Buffered {
+            held: Vec::new(rt.alloc()),
+            passed: 0,
+            fails,
+        });
+        assert_same!(rt; print(&mut out, b"ab".as_slice()), result);
+        assert_same!(rt; out.pass_on(), result);
+        let buffered = out.into_inner();
+        assert_same!(rt; buffered.held.as_slice(), b"ab".as_slice());
+        assert_same!(rt; buffered.passed, passed);
     }
 }
 

@@ -15,4 +15,4 @@ returns-in_err-accept g c =
 pub returns-in-Err : goal.returns-in-Err
 returns-in-Err g c =
     let passes = want_ok (accepted_of None c.in_ok-image.image) c.in_ok-accept.field-0 c.in_ok-accept.ensures.answer in
-    inr (c.in_ok-image.image, c.in_ok-image.ensures.image, inr (c.in_ok-accept.field-0, passes, (c.budget-budget.result, c.budget-budget.ensures, refl, (nothing _ _ c.in_ok-image.ensures.files, c.in-Err.ensures))))
+    inr (c.in_ok-image.image, c.in_ok-image.ensures.image, inr (c.in_ok-accept.field-0, passes, (c.budget-budget.result, c.budget-budget.ensures, refl, (nothing _ _ c.in_ok-image.ensures.files, c.in-Err.ensures.told))))

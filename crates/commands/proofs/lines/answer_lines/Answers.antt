@@ -1,7 +1,8 @@
 use Rattle.std.proofs.Common.{rules, ◌∙◌, take, [], false, inl, inr, refl}
 use Rattle.std.proofs.lemmas.Result.{err_from_is_err_and}
 use Rattle.std.specs.IoError.{error_kind}
-use Rattle.commands.proofs.MonLemmas.{broken_after, failed_unless, failures_more, one_failed, reads_more}
+use Rattle.commands.proofs.MonLemmas.{broken_after}
+use Rattle.commands.proofs.SourceLemmas.{failed_unless, failures_more, one_failed, reads_more}
 use Rattle.commands.specs.Streams.{is_failure, stream}
 use Rattle.commands.proofs.TalkLemmas.{at-end, consumes-kept, consumes-none, goes-begin, read-end, reads-on, talks-last, talks-quit}
 use Rattle.commands.proofs.lines.answer_lines.Goals as goal

@@ -51,7 +51,7 @@ returns-in-Ok g c =
       wrote = gains_after _ _ _ _ c.in_ok-file.ensures.files (rw (← c.as_slice-3.ensures.value) c.in_ok-write.ensures);
       budget = c.budget-budget.result;
       entry = c.budget-budget.ensures;
-      told = c.in-Ok.ensures;
+      told = c.in-Ok.ensures.told;
       done = refl;
     }
 
@@ -61,4 +61,4 @@ returns g c =
     let made = want_ok (made_of c.in_ok-job.job c.as_slice.result.now) c.in_ok-bytes.bytes.items c.in_ok-bytes.ensures.answer in
     let accepted = want_ok (accepted_in c.in_ok-job.job c.as_slice-2.result.now) c.in_ok-read_back.field-0 c.in_ok-read_back.ensures.answer in
     let wrote = gains_after _ _ _ _ c.in_ok-file.ensures.files (rw (← c.as_slice-3.ensures.value) c.in_ok-write.ensures) in
-    inr (c.in_ok-job.job, asked, inr (c.in_ok-file.file.items, c.in_ok-file.ensures.bytes, inr (c.in_ok-bytes.bytes.items, rw (← c.as_slice.ensures.value) made, inr (c.in_ok-read_back.field-0, rw (← c.as_slice-2.ensures.value) accepted, inr (c.budget-budget.result, c.budget-budget.ensures, refl, (wrote, c.in-Err.ensures))))))
+    inr (c.in_ok-job.job, asked, inr (c.in_ok-file.file.items, c.in_ok-file.ensures.bytes, inr (c.in_ok-bytes.bytes.items, rw (← c.as_slice.ensures.value) made, inr (c.in_ok-read_back.field-0, rw (← c.as_slice-2.ensures.value) accepted, inr (c.budget-budget.result, c.budget-budget.ensures, refl, (wrote, c.in-Err.ensures.told))))))
