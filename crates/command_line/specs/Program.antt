@@ -1,8 +1,6 @@
 -- What the words say of how the program ends, and of what it does.
-use Rattle.std.specs.Prelude.{◌≡◌, ◌⊎◌, codes, Bool, ℕ, List, Option, Result, Ok, Err, not, true, false, []}
-use Rattle.std.specs.IoError.{error_kind}
+use Rattle.std.specs.Prelude.{◌≡◌, ◌⊎◌, codes, Bool, ℕ, List, Option, not, true, false, []}
 use Rattle.std.specs.List.{list_any}
-use Rattle.std.specs.declared.io.Error.{Error as IoError}
 use Rattle.std.specs.declared.io.ErrorKind.{ErrorKind as IoErrorKind}
 use Rattle.std.specs.declared.io.ErrorKind.TheVariants.{OutOfMemory}
 use Rattle.command_line.specs.Words.{Check, Kinds, Line, Make, Mon, Run, Try}
@@ -102,8 +100,3 @@ status_without_words _ = status.Usage
 abbrev pub text_without_words : Status → List ℕ
 text_without_words status.Memory = stop_text stop.Memory
 text_without_words _ = codes "error: the words are not UTF-8\n"
-
--- how the program ends, where a status was answered, or the system gave no words
-abbrev pub status_at_end : Result Status IoError → Status
-status_at_end (Ok s) = s
-status_at_end (Err error) = status_without_words (error_kind error)

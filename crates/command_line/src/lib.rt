@@ -4,4 +4,4 @@
 mod line;
 mod program;
 
-pub use program::{end, end_without_words, perform};
+pub use program::{Ended, end_without_words, perform};

@@ -1,13 +1,12 @@
 //! The program, over any files, input and streams.
 ghost use Rattle.std.specs.IoError.{error_kind};
 ghost use Rattle.std.specs.Process.{exit_status};
-ghost use Rattle.std.specs.Prelude.{◌≡◌, IfErr, OnOk, map};
+ghost use Rattle.std.specs.Prelude.{◌≡◌, map};
 ghost use Rattle.clap.specs.Words.{fault_of};
 ghost use Rattle.rv_listing.specs.Sinks.{IsCounted};
 ghost use Rattle.command_line.specs.Line.{app};
 ghost use Rattle.command_line.specs.Program.{Does, IsAsAsked, IsStatusFor, IsUntouched, Stops};
-ghost use Rattle.command_line.specs.Program.{explains, status_at_end, status_without_words};
-ghost use Rattle.command_line.specs.Program.{text_without_words};
+ghost use Rattle.command_line.specs.Program.{explains, status_without_words, text_without_words};
 ghost use Rattle.commands.specs.Ending.{Ends, code_of};
 ghost use Rattle.commands.specs.Files.{files_of};
 ghost use Rattle.commands.specs.Streams.{IsTold, exchange, source, stream};
@@ -20,12 +19,36 @@ use commands::{
 use rv_listing::put;
 use std::alloc::Global;
 use std::io;
-use std::io::ErrorKind;
-use std::process::ExitCode;
+use std::io::{Eprint, ErrorKind};
+use std::process::{ExitCode, Termination};
+
+/// How the program ends, as `main` returns it. It comes of what was performed, or of words that the system did not give.
+#[derive(Clone, Copy)]
+pub struct Ended {
+    status: Status,
+}
+
+impl Ended {
+    /// The status.
+    pub fn status(self) -> Status
+        ensures { result ≡ self.status }
+    {
+        self.status
+    }
+}
+
+impl Termination for Ended {
+    /// The process ends with the code of the status.
+    fn report<R: Eprint>(self, _rt: &R) -> ExitCode
+        ensures { exit_status result ≡ code_of self.status }
+    {
+        ExitCode::from(self.status.code())
+    }
+}
 
 /// Does what the words ask for, of which the first is the program's name: reads and writes the files
 /// in `store`, prints what came of it to `output`, and why it was refused or failed to `errors`.
-/// `mon` alone reads from the input. It answers the status.
+/// `mon` alone reads from the input. It answers how the program ends.
 ///
 /// Where `clap` refuses the words, the status is `Usage`, and for help or the version `Done` (or `File`, where standard
 /// output takes no text), unless memory runs out.
@@ -36,9 +59,9 @@ pub fn perform<'a, S: Store, I: Source, O: Stream, E: Sink>(
     input: &mut I,
     output: &mut O,
     errors: &mut E,
-) -> Status
+) -> Ended
     ensures status { IsStatusFor (fault_of app (map (λ w. w.now) words.entry.now))
-        (IsCounted (O.failures output.old) (O.failures output.new)) result }
+        (IsCounted (O.failures output.old) (O.failures output.new)) result.status }
     ensures untouched { IsUntouched (fault_of app (map (λ w. w.now) words.entry.now))
         (S.held store.old) (S.held store.new) }
     ensures asked { IsAsAsked (files_of (S.held store.old)) (map (λ w. w.now) words.entry.now)
@@ -49,11 +72,15 @@ pub fn perform<'a, S: Store, I: Source, O: Stream, E: Sink>(
         (stream (O.contents output.new) (O.failures output.new)))
         (S.held store.old) (S.held store.new)
         (stream (E.contents errors.old) (E.failures errors.old))
-        (stream (E.contents errors.new) (E.failures errors.new)) result }
+        (stream (E.contents errors.new) (E.failures errors.new)) result.status }
 {
     match line(alloc, words) {
-        Ok(asked) => carry_out(alloc, asked, store, input, output, errors),
-        Err(error) => error.tell(alloc, output, errors),
+        Ok(asked) => Ended {
+            status: carry_out(alloc, asked, store, input, output, errors),
+        },
+        Err(error) => Ended {
+            status: error.tell(alloc, output, errors),
+        },
     }
 }
 
@@ -94,35 +121,21 @@ fn carry_out<'a, S: Store, I: Source, O: Stream, E: Sink>(
     }
 }
 
-/// Ends the program where the system's words were not taken, and tells why: memory ran out, or they are not UTF-8. It answers
-/// the status.
-pub fn end_without_words<E: Sink>(error: io::Error, errors: &mut E) -> Status
-    ensures status { result ≡ status_without_words (error_kind error) }
+/// Ends the program where the system's words were not taken, and tells why: memory ran out, or they are not UTF-8.
+pub fn end_without_words<E: Sink>(error: io::Error, errors: &mut E) -> Ended
+    ensures status { result.status ≡ status_without_words (error_kind error) }
     ensures told { IsTold (stream (E.contents errors.old) (E.failures errors.old))
-        (stream (E.contents errors.new) (E.failures errors.new)) (text_without_words result) }
+        (stream (E.contents errors.new) (E.failures errors.new)) (text_without_words result.status) }
 {
     match error.kind() {
-        ErrorKind::OutOfMemory => Stop::Memory.tell(errors),
+        ErrorKind::OutOfMemory => Ended {
+            status: Stop::Memory.tell(errors),
+        },
         _ => {
             let _told = put(errors, "error: the words are not UTF-8\n".as_bytes());
-            Status::Usage
+            Ended {
+                status: Status::Usage,
+            }
         }
     }
-}
-
-/// How the program ends, where `perform` answered a status, or the system's words were not taken, and why that is, which is told.
-pub fn end<E: Sink>(came: io::Result<Status>, errors: &mut E) -> ExitCode
-    ensures status { exit_status result ≡ code_of (status_at_end came) }
-    ensures quiet { OnOk came (stream (E.contents errors.new) (E.failures errors.new)
-        ≡ stream (E.contents errors.old) (E.failures errors.old)) }
-    ensures told { IfErr came (λ _. IsTold
-        (stream (E.contents errors.old) (E.failures errors.old))
-        (stream (E.contents errors.new) (E.failures errors.new))
-        (text_without_words (status_at_end came))) }
-{
-    let status = match came {
-        Ok(status) => status,
-        Err(error) => end_without_words(error, errors),
-    };
-    ExitCode::from(status.code())
 }

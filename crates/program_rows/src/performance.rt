@@ -90,7 +90,7 @@ fn status_of(
         (Some(most), [_, _, job]) => {
             mon_job_within(alloc, job, false, shelf, input, output, errors, most)
         }
-        _ => perform(alloc, words, shelf, input, output, errors),
+        _ => perform(alloc, words, shelf, input, output, errors).status(),
     }
 }
 

@@ -5,11 +5,10 @@
 //! `run` takes. Each prints what came of it.
 #![tactic(auto)]
 
-use command_line::{end, perform};
-use commands::{Counted, Disk, Over, Status};
+use command_line::{Ended, end_without_words, perform};
+use commands::{Counted, Disk, Over};
 use std::alloc::Global;
 use std::io::{IsTerminal, Read, Write};
-use std::process::ExitCode;
 use std::{env, io};
 
 /// The commands of `mon`, in short.
@@ -46,12 +45,15 @@ impl<R: Read, E: Write> Read for Prompting<R, E> {
     }
 }
 
-fn main(rt: HostRuntime) -> ExitCode {
-    end(answer(&rt), &mut Over::new(rt.stderr()))
+fn main(rt: HostRuntime) -> Ended {
+    match answer(&rt) {
+        Ok(ended) => ended,
+        Err(error) => end_without_words(error, &mut Over::new(rt.stderr())),
+    }
 }
 
 /// Performs the command line that the system passed on, which has to be UTF-8.
-fn answer(rt: &HostRuntime) -> io::Result<Status> {
+fn answer(rt: &HostRuntime) -> io::Result<Ended> {
     let alloc = rt.alloc();
     let texts: Vec<String> = env::args(rt)?.collect(alloc)?;
     let mut words: Vec<&str> = Vec::with_capacity(alloc, texts.len())?;

@@ -43,9 +43,9 @@ pub(crate) fn performed_words<'a, S: Store>(
 ) -> Outcome {
     let mut input = Counted::new(input);
     let (mut output, mut errors) = (Over::new(Vec::new(alloc)), Over::new(Vec::new(alloc)));
-    let status = perform(alloc, words, store, &mut input, &mut output, &mut errors);
+    let ended = perform(alloc, words, store, &mut input, &mut output, &mut errors);
     Outcome {
-        status,
+        status: ended.status(),
         output: output.into_inner(),
         errors: errors.into_inner(),
     }

@@ -1,11 +1,11 @@
 //! A store without memory, and words that the system does not give.
 use crate::tests::performances::performed;
-use command_line::{end, end_without_words};
+use command_line::end_without_words;
 use commands::{Over, Status, Store, StoreError};
 use std::alloc::Global;
 use std::io;
-use std::io::ErrorKind;
-use std::process::{Abort, ExitCode};
+use std::io::{Eprint, ErrorKind};
+use std::process::{Abort, ExitCode, Termination};
 
 /// Has no memory for any file, whatever the system says.
 #[derive(Drop)]
@@ -38,10 +38,18 @@ fn tells_no_more_where_memory_runs_out(rt: HostRuntime) {
 }
 
 /// Asserts how the program ends where the system gives it no words.
-fn expect_end(rt: impl Abort + Copy, alloc: Global, kind: ErrorKind, status: Status, text: &str) {
+fn expect_end(
+    rt: impl Abort + Eprint + Copy,
+    alloc: Global,
+    kind: ErrorKind,
+    status: Status,
+    code: u8,
+    text: &str,
+) {
     let mut errors = Over::new(Vec::new(alloc));
-    let came = end_without_words(io::Error::from(kind), &mut errors);
-    assert!(rt; came == status);
+    let ended = end_without_words(io::Error::from(kind), &mut errors);
+    assert!(rt; ended.status() == status);
+    assert!(rt; ended.report(&rt) == ExitCode::from(code));
     assert!(rt; errors.into_inner().as_slice() == text.as_bytes());
 }
 
@@ -49,25 +57,7 @@ fn expect_end(rt: impl Abort + Copy, alloc: Global, kind: ErrorKind, status: Sta
 fn ends_without_words_of_the_system(rt: HostRuntime) {
     let alloc = rt.alloc();
     let (data, memory) = (ErrorKind::InvalidData, ErrorKind::OutOfMemory);
-    expect_end(
-        rt,
-        alloc,
-        data,
-        Status::Usage,
-        "error: the words are not UTF-8\n",
-    );
-    expect_end(rt, alloc, memory, Status::Memory, "out of memory\n");
-}
-
-#[test]
-fn ends_with_the_code_of_a_status(rt: HostRuntime) {
-    let mut errors = Over::new(Vec::new(rt.alloc()));
-    for (status, code) in [(Status::Done, 0), (Status::Usage, 2), (Status::Stopped, 5)] {
-        assert!(rt; end(Ok(status), &mut errors) == ExitCode::from(code));
-    }
-    assert!(rt; errors.into_inner().is_empty());
-    let mut errors = Over::new(Vec::new(rt.alloc()));
-    let memory = io::Error::from(ErrorKind::OutOfMemory);
-    assert!(rt; end(Err(memory), &mut errors) == ExitCode::from(4u8));
-    assert!(rt; errors.into_inner().as_slice() == b"out of memory\n".as_slice());
+    let not_utf8 = "error: the words are not UTF-8\n";
+    expect_end(rt, alloc, data, Status::Usage, 2, not_utf8);
+    expect_end(rt, alloc, memory, Status::Memory, 4, "out of memory\n");
 }
