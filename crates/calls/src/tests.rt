@@ -10,6 +10,7 @@ mod forms;
 mod groups;
 mod images;
 mod integers;
+mod lanes;
 mod masks;
 mod memory;
 mod scalar_steps;

@@ -1,5 +1,8 @@
-//! What calls give that may be refused: it is asserted to be there, since behind each `?` a proof would let go of all that the
-//! test holds.
+//! The assertions of the tests. They have no clause, so that no proof looks into what is compared: the run compares it.
+//! They take their values and not references to them, since a proof pays for each loan that a test makes. What a call gives
+//! is asserted to be there: behind each `?` a proof would let go of all that the test holds.
+use std::alloc::Global;
+use std::fmt::Display;
 use std::process::Abort;
 
 /// What a call gives, where it is not refused. Else stops, and names the call.
@@ -10,6 +13,14 @@ pub(crate) fn value_of<T, E>(rt: impl Abort + Copy, call: &str, answer: Result<T
     }
 }
 
+/// What is there of an option. Else stops, and names the call that gives it.
+pub(crate) fn some_of<T>(rt: impl Abort + Copy, call: &str, answer: Option<T>) -> T {
+    match answer {
+        Some(value) => value,
+        None => panic!(rt; "{call} gives nothing"),
+    }
+}
+
 /// What a call gives that may be refused.
 macro_rules! given {
     ($rt:expr; $call:expr) => {
@@ -17,4 +28,23 @@ macro_rules! given {
     };
 }
 
+/// What a call gives that may give nothing.
+macro_rules! found {
+    ($rt:expr; $call:expr) => {
+        $crate::tests::assertions::some_of($rt, stringify!($call), $call)
+    };
+}
+
+/// Asserts what a value shows.
+pub(crate) fn assert_shows<T: Display + Drop>(
+    rt: impl Abort + Copy,
+    alloc: Global,
+    value: T,
+    expected: &str,
+) {
+    let text = given!(rt; format!(in alloc; "{value}"));
+    assert_eq!(rt; text.as_str(), expected);
+}
+
+pub(crate) use found;
 pub(crate) use given;

@@ -1,7 +1,7 @@
 //! Mask logic.
 ghost use Rattle.std.specs.Prelude.{◌≤◌};
 
-use crate::tests::lengths::{LENGTHS, MOST, bits};
+use crate::tests::lanes::lengths::{LENGTHS, MOST, bits};
 use lane_masks::combine;
 use rv_decode::LogicOp;
 use std::process::Abort;

@@ -1,7 +1,7 @@
 //! The fixed-point kernels.
 ghost use Rattle.std.specs.Prelude.{◌≤◌};
 
-use crate::tests::lengths::{LENGTHS, MOST, bits, bytes, halves, numbers};
+use crate::tests::lanes::lengths::{LENGTHS, MOST, bits, bytes, halves, numbers};
 use lane_fixed::{FixedLane, RoundingMode, clip, compute};
 use rv_decode::{ClipOp, FixedOp};
 use std::process::Abort;

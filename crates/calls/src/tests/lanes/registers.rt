@@ -5,9 +5,9 @@ ghost use Rattle.rv_decode.specs.declared.extents.Eew.TheVariants.{Same};
 ghost use Rattle.vreg_groups.specs.Group.{IsGroupInside};
 ghost use Rattle.vreg_groups.specs.Setup.{IsSetup};
 
-use crate::tests::fixed_point::{FIXED_OPERATIONS, MODES};
-use crate::tests::integers::{MULTIPLY_ADDS, OPERATIONS};
-use crate::tests::lengths::{LENGTHS, MOST, bytes};
+use crate::tests::lanes::fixed_point::{FIXED_OPERATIONS, MODES};
+use crate::tests::lanes::integers::{MULTIPLY_ADDS, OPERATIONS};
+use crate::tests::lanes::lengths::{LENGTHS, MOST, bytes};
 use lane_file::{ByteLane, Second, fixed, int, multiply_add};
 use lane_fixed::{FixedLane, RoundingMode, compute};
 use lane_int::{Lane, has_chunk};

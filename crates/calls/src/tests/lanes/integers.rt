@@ -1,7 +1,7 @@
 //! The integer kernels.
 ghost use Rattle.std.specs.Prelude.{◌≤◌};
 
-use crate::tests::lengths::{LENGTHS, MOST, bytes, halves, numbers};
+use crate::tests::lanes::lengths::{LENGTHS, MOST, bytes, halves, numbers};
 use lane_int::{Lane, compare, compute, multiply_add};
 use rv_decode::{CompareOp, IntOp, MultiplyAddOp};
 use std::process::Abort;
