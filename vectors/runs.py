@@ -509,11 +509,15 @@ def everything():
     yield Run('ecall', asm('addi a0, a0, 2; ecall; addi a0, a0, 3'), [5])
     yield Run('ecall, one step', asm('ecall'), [], most=1)
     yield Run('exit by number', asm('li t0, -16; addi t0, t0, 1; jalr t1, t0, 0'), [])
+    # Two pairs of words, which lie 1024 bytes apart, in turn.
+    yield Run('words far apart', asm('1: addi a1, a1, -1; j 2f; .zero 1016; 2: addi a0, a0, 1; bnez a1, 1b; ret'), [w(b'abc'), 3])
     # Traps.
     yield Run('nothing', asm('addi a0, a0, 2; .word 0; ret'), [5])
     yield Run('vill at the start', asm('vadd.vv v8, v8, v8; ret'), [])
     yield Run('vill later', asm('vsetivli t0, 3, e8, m1, ta, ma; vmv.v.i v8, 3; vsetvli t1, t0, e32, mf4, ta, ma; vadd.vv v9, v8, v8; ret'), [])
     yield Run('not legal at LMUL 2', asm('vsetivli t0, 3, e8, m2, ta, ma; vadd.vv v8, v8, v9; ret'), [], 32)
+    yield Run('legal at LMUL 1, and then at 2 no more',
+              asm('vsetivli x0, 1, e8, m1, ta, ma; 1: vadd.vv v1, v2, v3; vsetivli x0, 1, e8, m2, ta, ma; j 1b'), [])
     yield Run('off the end', asm('addi a0, a0, 1; addi a0, a0, 1'), [5])
     yield Run('to the stack', asm('addi sp, sp, -16; li t0, 0x8067; sw t0, 0(sp); jr sp'), [])
     yield Run('to a buffer', asm('jalr s1, 0(a0)'), [w(words(0x8067) + bytes(4092))])

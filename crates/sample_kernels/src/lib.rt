@@ -84,10 +84,6 @@ pub const RAISE_IF: Kernel = Kernel {
     blocks: 5,
 };
 
-/// Where the order of the block at 0x10010 stands in the certificate of `RAISE_IF`: its greater
-/// register, 11, and its lesser one, 32 (vl).
-pub const ORDER: usize = 336;
-
 /// The code of a kernel that adds bytes: vsetvli t0,a2,e8,m1,ta,ma; vle8.v v8,(a0);
 /// vle8.v v16,(a1); vadd.vv v8,v8,v16; vse8.v v8,(a0); ecall
 pub const ADD_BYTES: &str = "0c0672d7 02050407 02058807 02880457 02050427 00000073";

@@ -11,6 +11,7 @@ use region_mem::Args;
 use sample_kernels::{RAISE, SUM};
 use sandbox_run::{OpenError, Session, Spare};
 use std::alloc::Global;
+use std::process::Abort;
 use vreg_groups::Agnostic;
 
 /// How many steps a run takes on what `spare` holds, and x12 at its end.
@@ -34,24 +35,35 @@ fn run_on<const VLENB: usize>(
     }
 }
 
+/// Asserts how a run on what `spare` holds ends, and that it leaves something there.
+fn assert_ran<const VLENB: usize>(
+    rt: impl Abort + Copy,
+    alloc: Global,
+    accepted: &Accepted,
+    args: Args,
+    spare: &mut Option<Spare>,
+    ran: Result<(u64, u32), OpenError>,
+)
+    requires { IsVlenb VLENB }
+{
+    let came = run_on::<VLENB>(alloc, accepted, args, spare);
+    assert_same!(rt; came, ran);
+    assert_same!(rt; spare.is_some(), true);
+}
+
 /// One run leaves what the next one takes, and a refusal leaves what there was. The second run is of
 /// another image, at another length of vector registers, and has other words at the same addresses.
 #[test]
 fn runs_on_what_another_left(rt: HostRuntime) {
     let alloc = rt.alloc();
-    let (sum, raise) = (
-        accepted(rt, alloc, SUM, V128),
-        accepted(rt, alloc, RAISE, V256),
-    );
+    let sum = accepted(rt, alloc, SUM, V128);
+    let raise = accepted(rt, alloc, RAISE, V256);
     let spare = &mut None;
-    let ran = run_on::<16>(alloc, &sum, args(rt, alloc, Some(1024), 1, None), spare);
-    assert_same!(rt; ran, Ok((7, 3)));
-    assert_same!(rt; spare.is_some(), true);
-    let ran = run_on::<16>(alloc, &raise, args(rt, alloc, Some(4096), 9, None), spare);
-    assert_same!(rt; ran, Err(OpenError::WrongVlen));
-    assert_same!(rt; spare.is_some(), true);
-    let ran = run_on::<32>(alloc, &raise, args(rt, alloc, Some(4096), 9, None), spare);
-    assert_same!(rt; ran, Ok((18, 0)));
-    let ran = run_on::<16>(alloc, &sum, args(rt, alloc, Some(1024), 1024, None), spare);
-    assert_same!(rt; ran, Ok((5122, 3072)));
+    let some = |size, number| args(rt, alloc, Some(size), number, None);
+    assert_ran::<16>(rt, alloc, &sum, some(1024, 1), spare, Ok((7, 3)));
+    let refused = Err(OpenError::WrongVlen);
+    assert_ran::<16>(rt, alloc, &raise, some(4096, 9), spare, refused);
+    assert_ran::<32>(rt, alloc, &raise, some(4096, 9), spare, Ok((18, 0)));
+    let whole = Ok((5122, 3072));
+    assert_ran::<16>(rt, alloc, &sum, some(1024, 1024), spare, whole);
 }
