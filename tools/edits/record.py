@@ -56,10 +56,10 @@ def imported(text):
 
 
 def meant(path, text):
-    """What counts of a file: the names that it imports, then its lines, without comments and `Debug`. The path counts for code alone, as
-    definitions and proofs may move."""
+    """What counts of a file: the names that it imports, then its lines, without comments, `Debug` and modules of tests. The path counts
+    for code alone, as definitions and proofs may move."""
     is_code = path.endswith(".rt")
-    said = MODULE.sub("", USING.sub("", without_debug(without_comments(text, not is_code))))
+    said = MODULE.sub("", USING.sub("", OF_TESTS.sub("", without_debug(without_comments(text, not is_code)))))
     return "\n".join([path] * is_code + imported(said) + [it for it in IMPORT.sub("", said).splitlines() if it])
 
 

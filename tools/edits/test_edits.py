@@ -216,6 +216,11 @@ class Table(WithCrate):
         self.assertEqual(record.without_debug("#[derive(Clone, Debug)]\nstruct A;"), "#[derive(Clone)]\nstruct A;")
         self.assertEqual(record.without_debug("#[derive(Debug)]\nstruct A;"), "struct A;")
 
+    def test_a_module_of_tests_does_not_count(self):
+        own = "pub fn a() {}\n"
+        self.assertEqual(record.meant("src/lib.rt", f"{own}\n#[cfg(test)]\nmod tests;\n"), record.meant("src/lib.rt", own))
+        self.assertNotEqual(record.meant("src/lib.rt", f"{own}\nmod tests;\n"), record.meant("src/lib.rt", own))
+
     def test_words_name_crates_and_pairs(self):
         of = {"low": pairs.read_pairs(self.crate)}
         self.assertEqual(edits_main.wanted(["low/takes_more", "low/adds_two"], of), of)

@@ -107,6 +107,13 @@ static void overlaps(void) {
     arguments[3].kind = arguments[4].kind = RVVBOX_NONE;
 }
 
+/* Eight places that name no bytes lie apart, and another number of places is refused */
+static void places(void) {
+    struct rvvbox_place none[RVVBOX_PLACES] = {{.kind = RVVBOX_NONE}};
+    EXPECT(rvvbox_apart(none, RVVBOX_PLACES, &refusal) == RVVBOX_DONE && refusal.status == RVVBOX_DONE);
+    EXPECT(rvvbox_apart(none, RVVBOX_PLACES - 1, &refusal) == RVVBOX_BAD_COUNT && refusal.status == RVVBOX_BAD_COUNT);
+}
+
 /* What a kernel tells of itself */
 static void told(void) {
     struct rvvbox_parameter parameters[8];
@@ -437,6 +444,7 @@ int main(void) {
     EXPECT(accept(128, &kernel) == RVVBOX_DONE);
     wrong_arguments();
     overlaps();
+    places();
     told();
     tried();
     read_alone();

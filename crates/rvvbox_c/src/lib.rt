@@ -50,6 +50,3 @@ pub use slot::Slot;
 pub use standing::Standing;
 pub use status::{Bound, Refusal};
 pub use tries::{Stopped, rvvbox_try_raw};
-
-#[cfg(test)]
-mod tests;
