@@ -1,10 +1,14 @@
 //! The subcommands: what each reads, in order, what it does with it, and what it prints and writes.
 //!
-//! Each has a module: `checks`, `makes`, `mons`, `runs` and `tries`. What they share stands in the
-//! others: `starts` (what those on a job begin with), `files` (what is read, and the out files),
-//! `accepted` (an image with its certificate), `sources` and `lines` (the input of `mon`), `trial` (what comes of a
-//! run), `registers` (those that it left), `did` (what was done), `stop` (statuses and reasons to stop), `texts` and `escapes` (how those are
-//! told), `halt` (what more is told of them), `why` (of what they are), `store` (where files are), `system` (those of the system) and `memory` (files in memory).
+//! Each has a module: `checks`, `makes`, `mons`, `runs` and `tries`. What they share stands in the others:
+//!
+//! - `starts` has what those on a job begin with, `files` what is read, and the out files, `accepted` an image with its
+//!   certificate.
+//! - `sources` and `lines` have the input of `mon`, `trial` what comes of a run, `registers` those that it left, `did`
+//!   what was done.
+//! - `stop` has statuses and reasons to stop. `texts` and `escapes` have how those are told, `halt` what more is told of
+//!   them, `why` of what they are.
+//! - `store` has where files are, `system` those of the system, and `memory` files in memory.
 #![tactic(auto)]
 
 mod accepted;
