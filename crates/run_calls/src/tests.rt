@@ -3,7 +3,6 @@
 mod assertions;
 mod certificates;
 mod checks;
-mod explained;
 mod kernels;
 mod machines;
 mod monitoring;

@@ -1,8 +1,8 @@
-//! How certificates are read, written and made.
+//! How certificates are read, written and made. Which bytes spell none is tried by `conformance`, on the rows of `checks.txt`.
 use crate::tests::assertions::{assert_same, found, given};
 use crate::tests::kernels::bytes_of;
 use cert_note::{
-    Block, CertError, Certificate, Contents, OrderFact, RegisterFact, Version, Vlen, read, write,
+    Block, Certificate, Contents, OrderFact, RegisterFact, Version, Vlen, read, write,
 };
 use region_mem::{Param, Parameters};
 use sample_kernels::{Kernel, RAISE, RAISE_IF};
@@ -75,27 +75,6 @@ fn reads_and_writes_certificates(rt: HostRuntime) {
     };
     assert_same!(rt; block.orders.as_slice().first().copied(), Some(order));
     assert_same!(rt; block.budget.second_factor, 0);
-}
-
-/// No byte, one byte less, and two that stand behind the last block.
-#[test]
-fn refuses_another_length(rt: HostRuntime) {
-    for (length, fault, text) in [
-        (0, CertError::Short, "the certificate is cut off"),
-        (260, CertError::Short, "the certificate is cut off"),
-        (
-            263,
-            CertError::TrailingBytes,
-            "bytes stand behind the certificate",
-        ),
-    ] {
-        let mut bytes = bytes_of(rt, rt.alloc(), RAISE.certificate);
-        given!(rt; bytes.resize(length, 0xff));
-        let came = found!(rt; read(rt.alloc(), &bytes).err());
-        assert_same!(rt; came, fault);
-        let came = given!(rt; format!(in rt.alloc(); "{came}"));
-        assert_same!(rt; came.as_str(), text);
-    }
 }
 
 /// A certificate of no blocks.
