@@ -21,7 +21,7 @@ import sys
 from concurrent.futures import ThreadPoolExecutor, as_completed
 
 from pairs import EditError, read_pairs
-from record import RecordError, read_table, renewed, sums, with_table
+from record import RecordError, own_texts, read_table, renewed, sum_of, with_table
 from rounds import ROOT, Minutes, crates_of, try_pairs
 
 DOCUMENT = ROOT / "docs" / "EDITS.md"
@@ -45,12 +45,17 @@ def wanted(words, pairs):
     return chosen
 
 
-def differing(pairs, own_sums, table):
+def is_recorded(row, pair, texts):
+    """Whether a row is of the pair as it stands, tried on these texts."""
+    return row is not None and row.sum == sum_of(texts, pair, row.goal)
+
+
+def differing(pairs, texts, table):
     """The pairs whose sums differ from the table's, and those that have no row, by crate."""
     chosen = {}
     for name, of_crate in pairs.items():
         rows = table.get(name, {})
-        found = [it for it in of_crate if it.name not in rows or rows[it.name].sum != own_sums[name][it.name]]
+        found = [it for it in of_crate if not is_recorded(rows.get(it.name), it, texts[name])]
         if found:
             chosen[name] = found
     return chosen
@@ -92,14 +97,14 @@ def tell(name, tried, shows_goals):
     print(f"{name}: {len(tried.goals)} of {of} pairs refused, by {tried.checks} checks", flush=True)
 
 
-def write(pairs, own_sums, names, tried=None):
-    """Writes what came of the pairs of the crates of these names into the table, and drops the rows of what is gone there."""
+def write(pairs, texts, names, tried=None):
+    """Writes what came of the pairs of the crates of these names, tried on these texts, and drops the rows of what is gone there."""
     with DOCUMENT.open("r+") as file:
         fcntl.flock(file, fcntl.LOCK_EX)
         document = file.read()
         table = {it: rows for it, rows in read_table(document).items() if it in pairs}
         for name in names:
-            table[name] = renewed(table.get(name, {}), pairs[name], tried, own_sums[name])
+            table[name] = renewed(table.get(name, {}), pairs[name], tried, texts[name])
         file.seek(0)
         file.truncate()
         file.write(with_table(document, table))
@@ -135,23 +140,23 @@ def perform(call):
     """Tries what the call names, and gives its status."""
     crates = crates_of(ROOT)
     pairs = {name: found for name in crates if (found := read_pairs(ROOT / "crates" / name))}
-    own_sums = {name: sums(ROOT / "crates" / name, of_crate) for name, of_crate in pairs.items()}
+    texts = {name: own_texts(ROOT / "crates" / name) for name in pairs}
     table = read_table(DOCUMENT.read_text())
-    chosen = differing(pairs, own_sums, table) if call.changed else wanted(call.names, pairs)
+    chosen = differing(pairs, texts, table) if call.changed else wanted(call.names, pairs)
     minutes = Minutes(allowed(call, chosen))
     refused = 0
     for name, tried in try_all(chosen, crates, minutes):
         tell(name, tried, not call.changed and not call.write)
         refused += len(tried.goals)
         if call.write:
-            write(pairs, own_sums, [name], tried)
-    is_recorded = True
+            write(pairs, texts, [name], tried)
+    has_all = True
     if call.changed:
         if call.write:
-            write(pairs, own_sums, pairs)
-        is_recorded = tell_record(pairs, chosen, call.write)
+            write(pairs, texts, pairs)
+        has_all = tell_record(pairs, chosen, call.write)
         print(f"each-edit: {count(chosen)} of {count(pairs)} pairs tried anew, {refused} refused, in {minutes.taken():.0f} processor minutes")
-    return 0 if refused == count(chosen) and is_recorded else 1
+    return 0 if refused == count(chosen) and has_all else 1
 
 
 def count(pairs):

@@ -21,6 +21,8 @@ NAME = re.compile(r"(?:\w+\.)?TheVariants\b.*|[^.]+$")
 # The same in an attribute of code, and a list of a crate's modules.
 USING = re.compile(r"\b\w+::(?:proofs|specs)::(?:\w+::)*")
 MODULE = re.compile(r"(?m)^(?:pub )?mod \w+$")
+# The files in a function's own folder that answer its goals. The folder of a cycle of calls begins with `+`.
+ANSWERS = ("Answers.antt", "Invariants.antt", "Proof.antt")
 DIGITS = 12
 
 
@@ -63,18 +65,26 @@ def meant(path, text):
     return "\n".join([path] * is_code + imported(said) + [it for it in IMPORT.sub("", said).splitlines() if it])
 
 
-def sums(crate, pairs):
-    """The sum of each pair: of what counts of the crate's sources, and of the pair's own text."""
-    of_crate = hashlib.sha256()
-    for text in sorted(filter(None, (meant(*it) for it in sources(crate).items()))):
-        of_crate.update(f"{text}\n".encode())
-    return {it.name: sum_of(of_crate.copy(), it) for it in pairs}
+def own_texts(crate):
+    """What counts of a crate's own sources, each text with its path, in an order of their own."""
+    found = ((text, path) for path, it in sources(crate).items() if (text := meant(path, it)))
+    return [(path, text) for text, path in sorted(found)]
 
 
-def sum_of(of_crate, pair):
-    """The sum of a pair, begun with that of its crate."""
-    of_crate.update(pair.text().encode())
-    return of_crate.hexdigest()[:DIGITS]
+def is_of_another(path, goal):
+    """Whether a file has answers of another function than the one in which the goal stays open: those are no part of its proof."""
+    of, name = path.split("/")[-2:]
+    return name in ANSWERS and goal is not None and not of.startswith("+") and of != goal.split(": ")[1]
+
+
+def sum_of(texts, pair, goal=None):
+    """The sum of a pair: of what counts of its crate's sources where the pair leaves this goal open, and of the pair's own text."""
+    found = hashlib.sha256()
+    for path, text in texts:
+        if not is_of_another(path, goal):
+            found.update(f"{text}\n".encode())
+    found.update(pair.text().encode())
+    return found.hexdigest()[:DIGITS]
 
 
 def split(document):
@@ -104,10 +114,10 @@ def rows_of(rows):
     return "".join(f"| `{name}` | `{row.goal}` | `{row.sum}` |\n" for name, row in rows.items())
 
 
-def renewed(rows, pairs, tried, own_sums):
-    """The rows of a crate's pairs, in the order of its file, once some were tried: without those that left no goal open."""
+def renewed(rows, pairs, tried, texts):
+    """The rows of a crate's pairs, in the order of its file, once some were tried on these texts: without those that left no goal open."""
     goals = tried.goals if tried else {}
     missed = {it.name for it in tried.missed} if tried else set()
-    new = {name: Row(goal, own_sums[name]) for name, goal in goals.items()}
+    new = {it.name: Row(goals[it.name], sum_of(texts, it, goals[it.name])) for it in pairs if it.name in goals}
     kept = {name: row for name, row in rows.items() if name not in missed} | new
     return {it.name: kept[it.name] for it in pairs if it.name in kept}

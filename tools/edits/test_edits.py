@@ -65,8 +65,11 @@ class WithCrate(unittest.TestCase):
         (self.crate / path).parent.mkdir(parents=True, exist_ok=True)
         (self.crate / path).write_text(text)
 
-    def sums(self):
-        return record.sums(self.crate, pairs.read_pairs(self.crate))
+    def texts(self):
+        return record.own_texts(self.crate)
+
+    def sums(self, goal=None):
+        return {it.name: record.sum_of(self.texts(), it, goal) for it in pairs.read_pairs(self.crate)}
 
 
 class Pairs(WithCrate):
@@ -130,6 +133,18 @@ class Sums(WithCrate):
             seen.append(self.sums())
             self.assertNotIn(seen[-1], seen[:-1], path)
 
+    def test_answers_of_another_function_than_the_goals_do_not_count(self):
+        goal = "src/lib.rt: next: returns"
+        before = self.sums(goal)
+        for path in ["proofs/first/Answers.antt", "proofs/Low/first/Invariants.antt", "proofs/Low/first/Proof.antt"]:
+            self.put(path, "pub a = b")
+        self.assertEqual(self.sums(goal), before)
+        seen = [before]
+        for path in ["proofs/Low/next/Answers.antt", "proofs/+both/Proof.antt", "proofs/Less.antt"]:
+            self.put(path, "pub a = b")
+            seen.append(self.sums(goal))
+            self.assertNotIn(seen[-1], seen[:-1], path)
+
     def test_a_lemma_may_move(self):
         lemma, user = "use Rattle.low.specs.Lib.{a}\nuse Rattle.std.proofs.Common.{refl}\npub b = a", "use Rattle.low.{}.Less.{{b}}\npub c = b"
         self.put("proofs/Less.antt", lemma)
@@ -185,7 +200,7 @@ class Table(WithCrate):
         document.write_text(record.with_table(self.EMPTY, self.ROWS | {"gone": self.ROWS["high"]}))
         of = {"low": pairs.read_pairs(self.crate), "high": [Pair("b", ())]}
         with mock.patch("edits_main.DOCUMENT", document):
-            edits_main.write(of, {"low": self.sums()}, ["low"], rounds.Tried({"takes_more": "src/lib.rt: next: small"}, [], [], [], 1))
+            edits_main.write(of, {"low": self.texts()}, ["low"], rounds.Tried({"takes_more": "src/lib.rt: next: small"}, [], [], [], 1))
         table = record.read_table(document.read_text())
         self.assertEqual(table["high"], self.ROWS["high"])
         self.assertEqual(list(table), ["high", "low"])
@@ -200,8 +215,8 @@ class Table(WithCrate):
         self.assertEqual(list(record.renewed(rows, of, rounds.Tried({}, of[:1], of[1:], [], 1), {})), ["takes_more"])
 
     def test_what_differs_is_tried(self):
-        of, own = {"low": pairs.read_pairs(self.crate)}, {"low": self.sums()}
-        table = {"low": {name: Row("src/lib.rt: next: returns", of_pair) for name, of_pair in own["low"].items()}}
+        of, own = {"low": pairs.read_pairs(self.crate)}, {"low": self.texts()}
+        table = {"low": {name: Row("src/lib.rt: next: returns", of_pair) for name, of_pair in self.sums().items()}}
         self.assertEqual(edits_main.differing(of, own, table), {})
         table["low"]["adds_two"] = Row("src/lib.rt: next: returns", "0" * 12)
         self.assertEqual(edits_main.differing(of, own, table), {"low": of["low"][:1]})
