@@ -13,7 +13,7 @@ use Rattle.elf_image.specs.Words.{half, word}
 use Rattle.cert_note.specs.Spelling.{spelled_term, spelled_equality, spelled_fact, spelled_vector, spelled_order, spelled_budget, spelled_vtype, counts, spelled_block}
 use Rattle.cert_note.specs.Reading.{byte_at, number_at, zero_at, zeros_at, term_at, terms_at, sum_at, none_at, some_at, equality_at, fact_at, facts_at, group_at, vector_at, vectors_at, single_at, double_at, budget_at, is_vtype, vtype_at, few_at, order_count_at, counts_at, order_at, orders_at, block_at}
 use Rattle.elf_image.specs.Words.{AreBytes}
-use Rattle.cert_note.proofs.Numbers.{bind_ok, expected, ok_is, Takes, Takes-then, byte_takes, byte_again, half_takes, half_again, word_takes, word_again, zero_takes, zeros_takes, zeros_again, many_takes, many_again}
+use Rattle.cert_note.proofs.Numbers.{bind_ok, after, expected, meeting, ok_is, Takes, Takes-then, byte_takes, byte_again, half_takes, half_again, word_takes, word_again, zero_takes, zeros_takes, zeros_again, many_takes, many_again}
 
 pub chosen : {A : Type 0} (b : Bool) (x y z : A) → cond b x y ≡ z → ((b ≡ true) × (x ≡ z)) ⊎ ((b ≡ false) × (y ≡ z))
 chosen true x y z e = inl (refl, e)
@@ -104,22 +104,22 @@ regroup7 a b c d e f g rest = simp append_assoc
 pub fact_takes : (params : List Param) (from : ℕ) (bytes : List ℕ) (x : RegisterFact) (rest : List ℕ) → AreBytes bytes → fact_at params from bytes ≡ Ok (x, rest) → Takes bytes (spelled_fact x) rest × IsRegisterFact params from x
 unfolding fact_at spelled_fact
 fact_takes params from bytes x rest fits e =
-    let a = bind_ok (byte_at bytes) _ (x, rest) e in
-    let p = expected _ _ _ _ (x, rest) a.2 in
-    let b = bind_ok (number_at _ a.0.1) _ (x, rest) p.1 in
-    let c = bind_ok (number_at _ b.0.1) _ (x, rest) b.2 in
-    let q = expected _ _ _ _ (x, rest) c.2 in
-    let d = bind_ok (equality_at params b.0.0 c.0.0 c.0.1) _ (x, rest) q.1 in
-    let t0 = byte_takes bytes a.0.0 a.0.1 fits a.1 in
-    let t1 = word_takes a.0.1 b.0.0 b.0.1 t0.0.rest_fits b.1 in
-    let t2 = word_takes b.0.1 c.0.0 c.0.1 t1.0.rest_fits c.1 in
-    let t3 = equality_takes params b.0.0 c.0.0 c.0.1 d.0.0 d.0.1 t2.0.rest_fits d.1 in
-    let e1 = Takes-then bytes (a.0.0 ∷ []) a.0.1 (word b.0.0) b.0.1 t0.0 t1.0 in
-    let e2 = Takes-then bytes ((a.0.0 ∷ []) ++ word b.0.0) b.0.1 (word c.0.0) c.0.1 e1 t2.0 in
-    let e3 = Takes-then bytes (((a.0.0 ∷ []) ++ word b.0.0) ++ word c.0.0) c.0.1 (spelled_equality d.0.0) d.0.1 e2 t3.0 in
-    let made : RegisterFact × List ℕ = (record { number = a.0.0; low = b.0.0; high = c.0.0; equality = d.0.0 }, d.0.1) in
-    subst (λ (y : RegisterFact × List ℕ). Takes bytes (spelled_fact y.0) y.1 × IsRegisterFact params from y.0) (ok_is made (x, rest) d.2)
-    (e3, record { number = p.0; low = t1.1; high = t2.1; interval = q.0; says = t3.1 })
+    after (byte_at bytes) _ (x, rest) e (λ a is_a e1.
+    meeting _ _ _ _ (x, rest) e1 (λ number e2.
+    after (number_at _ a.1) _ (x, rest) e2 (λ b is_b e3.
+    after (number_at _ b.1) _ (x, rest) e3 (λ c is_c e4.
+    meeting _ _ _ _ (x, rest) e4 (λ interval e5.
+    after (equality_at params b.0 c.0 c.1) _ (x, rest) e5 (λ d is_d e6.
+    let t0 = byte_takes bytes a.0 a.1 fits is_a in
+    let t1 = word_takes a.1 b.0 b.1 t0.0.rest_fits is_b in
+    let t2 = word_takes b.1 c.0 c.1 t1.0.rest_fits is_c in
+    let t3 = equality_takes params b.0 c.0 c.1 d.0 d.1 t2.0.rest_fits is_d in
+    let w1 = Takes-then bytes (a.0 ∷ []) a.1 (word b.0) b.1 t0.0 t1.0 in
+    let w2 = Takes-then bytes ((a.0 ∷ []) ++ word b.0) b.1 (word c.0) c.1 w1 t2.0 in
+    let w3 = Takes-then bytes (((a.0 ∷ []) ++ word b.0) ++ word c.0) c.1 (spelled_equality d.0) d.1 w2 t3.0 in
+    let made : RegisterFact × List ℕ = (record { number = a.0; low = b.0; high = c.0; equality = d.0 }, d.1) in
+    subst (λ (y : RegisterFact × List ℕ). Takes bytes (spelled_fact y.0) y.1 × IsRegisterFact params from y.0) (ok_is made (x, rest) e6)
+    (w3, record { number = number; low = t1.1; high = t2.1; interval = interval; says = t3.1 })))))))
 
 pub fact_again : (params : List Param) (from : ℕ) (x : RegisterFact) (rest : List ℕ) → IsRegisterFact params from x → fact_at params from (spelled_fact x ++ rest) ≡ Ok (x, rest)
 unfolding fact_at spelled_fact byte_at
@@ -138,22 +138,22 @@ spelled_group g = g.register ∷ g.width ∷ g.registers ∷ 0 ∷ []
 group_takes : (from : ℕ) (bytes : List ℕ) (x : FactGroup) (rest : List ℕ) → AreBytes bytes → group_at from bytes ≡ Ok (x, rest) → Takes bytes (spelled_group x) rest × IsGroupFrom from x
 unfolding group_at
 group_takes from bytes x rest fits e =
-    let a = bind_ok (byte_at bytes) _ (x, rest) e in
-    let p = expected _ _ _ _ (x, rest) a.2 in
-    let b = bind_ok (byte_at a.0.1) _ (x, rest) p.1 in
-    let q = expected _ _ _ _ (x, rest) b.2 in
-    let c = bind_ok (byte_at b.0.1) _ (x, rest) q.1 in
-    let r = expected _ _ _ _ (x, rest) c.2 in
-    let d = bind_ok (zero_at error.Fact c.0.1) _ (x, rest) r.1 in
-    let t0 = byte_takes bytes a.0.0 a.0.1 fits a.1 in
-    let t1 = byte_takes a.0.1 b.0.0 b.0.1 t0.0.rest_fits b.1 in
-    let t2 = byte_takes b.0.1 c.0.0 c.0.1 t1.0.rest_fits c.1 in
-    let t3 = zero_takes error.Fact c.0.1 d.0 t2.0.rest_fits d.1 in
-    let e1 = Takes-then bytes (a.0.0 ∷ []) a.0.1 (b.0.0 ∷ []) b.0.1 t0.0 t1.0 in
-    let e2 = Takes-then bytes (a.0.0 ∷ b.0.0 ∷ []) b.0.1 (c.0.0 ∷ []) c.0.1 e1 t2.0 in
-    let e3 = Takes-then bytes (a.0.0 ∷ b.0.0 ∷ c.0.0 ∷ []) c.0.1 (0 ∷ []) d.0 e2 t3 in
-    let made : FactGroup × List ℕ = (record { register = a.0.0; width = b.0.0; registers = c.0.0 }, d.0) in
-    subst (λ (y : FactGroup × List ℕ). Takes bytes (spelled_group y.0) y.1 × IsGroupFrom from y.0) (ok_is made (x, rest) d.2) (e3, (p.0, q.0, r.0))
+    after (byte_at bytes) _ (x, rest) e (λ a is_a e1.
+    meeting _ _ _ _ (x, rest) e1 (λ register e2.
+    after (byte_at a.1) _ (x, rest) e2 (λ b is_b e3.
+    meeting _ _ _ _ (x, rest) e3 (λ width e4.
+    after (byte_at b.1) _ (x, rest) e4 (λ c is_c e5.
+    meeting _ _ _ _ (x, rest) e5 (λ group e6.
+    after (zero_at error.Fact c.1) _ (x, rest) e6 (λ d is_d e7.
+    let t0 = byte_takes bytes a.0 a.1 fits is_a in
+    let t1 = byte_takes a.1 b.0 b.1 t0.0.rest_fits is_b in
+    let t2 = byte_takes b.1 c.0 c.1 t1.0.rest_fits is_c in
+    let t3 = zero_takes error.Fact c.1 d t2.0.rest_fits is_d in
+    let w1 = Takes-then bytes (a.0 ∷ []) a.1 (b.0 ∷ []) b.1 t0.0 t1.0 in
+    let w2 = Takes-then bytes (a.0 ∷ b.0 ∷ []) b.1 (c.0 ∷ []) c.1 w1 t2.0 in
+    let w3 = Takes-then bytes (a.0 ∷ b.0 ∷ c.0 ∷ []) c.1 (0 ∷ []) d w2 t3 in
+    let made : FactGroup × List ℕ = (record { register = a.0; width = b.0; registers = c.0 }, d) in
+    subst (λ (y : FactGroup × List ℕ). Takes bytes (spelled_group y.0) y.1 × IsGroupFrom from y.0) (ok_is made (x, rest) e7) (w3, (register, width, group)))))))))
 
 group_again : (from : ℕ) (x : FactGroup) (rest : List ℕ) → IsGroupFrom from x → group_at from (spelled_group x ++ rest) ≡ Ok (x, rest)
 unfolding group_at byte_at zero_at
@@ -162,26 +162,26 @@ group_again from x rest is = rw (is.0, is.1, is.2) refl
 pub vector_takes : (vlen : Vlen) (from : ℕ) (bytes : List ℕ) (x : VectorFact) (rest : List ℕ) → AreBytes bytes → vector_at vlen from bytes ≡ Ok (x, rest) → Takes bytes (spelled_vector x) rest × IsVectorFact vlen from x
 unfolding vector_at spelled_vector
 vector_takes vlen from bytes x rest fits e =
-    let a = bind_ok (group_at from bytes) _ (x, rest) e in
-    let b = bind_ok (number_at _ a.0.1) _ (x, rest) a.2 in
-    let p = expected _ _ _ _ (x, rest) b.2 in
-    let c = bind_ok (zeros_at error.Fact b.0.1) _ (x, rest) p.1 in
-    let d = bind_ok (number_at _ c.0) _ (x, rest) c.2 in
-    let f = bind_ok (number_at _ d.0.1) _ (x, rest) d.2 in
-    let q = expected _ _ _ _ (x, rest) f.2 in
-    let t0 = group_takes from bytes a.0.0 a.0.1 fits a.1 in
-    let t1 = half_takes a.0.1 b.0.0 b.0.1 t0.0.rest_fits b.1 in
-    let t2 = zeros_takes error.Fact b.0.1 c.0 t1.0.rest_fits c.1 in
-    let t3 = word_takes c.0 d.0.0 d.0.1 t2.rest_fits d.1 in
-    let t4 = word_takes d.0.1 f.0.0 f.0.1 t3.0.rest_fits f.1 in
-    let g = spelled_group a.0.0 in
-    let e1 = Takes-then bytes g a.0.1 (half b.0.0) b.0.1 t0.0 t1.0 in
-    let e2 = Takes-then bytes (g ++ half b.0.0) b.0.1 (half 0) c.0 e1 t2 in
-    let e3 = Takes-then bytes ((g ++ half b.0.0) ++ half 0) c.0 (word d.0.0) d.0.1 e2 t3.0 in
-    let e4 = Takes-then bytes (((g ++ half b.0.0) ++ half 0) ++ word d.0.0) d.0.1 (word f.0.0) f.0.1 e3 t4.0 in
-    let made : VectorFact × List ℕ = (record { register = a.0.0.register; width = a.0.0.width; registers = a.0.0.registers; count = b.0.0; low = d.0.0; high = f.0.0 }, f.0.1) in
-    subst (λ (y : VectorFact × List ℕ). Takes bytes (spelled_vector y.0) y.1 × IsVectorFact vlen from y.0) (ok_is made (x, rest) q.1)
-    (e4, record { register = t0.1.0; width = t0.1.1; group = t0.1.2; count = p.0; count_fits = t1.1; low = t3.1; high = t4.1; interval = q.0 })
+    after (group_at from bytes) _ (x, rest) e (λ a is_a e1.
+    after (number_at _ a.1) _ (x, rest) e1 (λ b is_b e2.
+    meeting _ _ _ _ (x, rest) e2 (λ count e3.
+    after (zeros_at error.Fact b.1) _ (x, rest) e3 (λ c is_c e4.
+    after (number_at _ c) _ (x, rest) e4 (λ d is_d e5.
+    after (number_at _ d.1) _ (x, rest) e5 (λ f is_f e6.
+    meeting _ _ _ _ (x, rest) e6 (λ interval e7.
+    let t0 = group_takes from bytes a.0 a.1 fits is_a in
+    let t1 = half_takes a.1 b.0 b.1 t0.0.rest_fits is_b in
+    let t2 = zeros_takes error.Fact b.1 c t1.0.rest_fits is_c in
+    let t3 = word_takes c d.0 d.1 t2.rest_fits is_d in
+    let t4 = word_takes d.1 f.0 f.1 t3.0.rest_fits is_f in
+    let g = spelled_group a.0 in
+    let w1 = Takes-then bytes g a.1 (half b.0) b.1 t0.0 t1.0 in
+    let w2 = Takes-then bytes (g ++ half b.0) b.1 (half 0) c w1 t2 in
+    let w3 = Takes-then bytes ((g ++ half b.0) ++ half 0) c (word d.0) d.1 w2 t3.0 in
+    let w4 = Takes-then bytes (((g ++ half b.0) ++ half 0) ++ word d.0) d.1 (word f.0) f.1 w3 t4.0 in
+    let made : VectorFact × List ℕ = (record { register = a.0.register; width = a.0.width; registers = a.0.registers; count = b.0; low = d.0; high = f.0 }, f.1) in
+    subst (λ (y : VectorFact × List ℕ). Takes bytes (spelled_vector y.0) y.1 × IsVectorFact vlen from y.0) (ok_is made (x, rest) e7)
+    (w4, record { register = t0.1.0; width = t0.1.1; group = t0.1.2; count = count; count_fits = t1.1; low = t3.1; high = t4.1; interval = interval }))))))))
 
 pub vector_again : (vlen : Vlen) (from : ℕ) (x : VectorFact) (rest : List ℕ) → IsVectorFact vlen from x → vector_at vlen from (spelled_vector x ++ rest) ≡ Ok (x, rest)
 unfolding vector_at spelled_vector
@@ -236,26 +236,26 @@ single_takes bytes x rest fits e =
 double_takes : (bytes : List ℕ) (x : Budget) (rest : List ℕ) → AreBytes bytes → double_at bytes ≡ Ok (x, rest) → Takes bytes (spelled_budget V2 x) rest × IsBudgetOf x
 unfolding double_at spelled_budget
 double_takes bytes x rest fits e =
-    let a = bind_ok (number_at _ bytes) _ (x, rest) e in
-    let b = bind_ok (number_at _ a.0.1) _ (x, rest) a.2 in
-    let c = bind_ok (number_at _ b.0.1) _ (x, rest) b.2 in
-    let p = expected (eqb c.0.0 0 || ltb 0 b.0.0) _ _ _ (x, rest) c.2 in
-    let d = bind_ok (byte_at c.0.1) _ (x, rest) p.1 in
-    let q = expected (is_budget b.0.0 d.0.0) _ _ _ (x, rest) d.2 in
-    let f = bind_ok (byte_at d.0.1) _ (x, rest) q.1 in
-    let s = expected (is_second b.0.0 d.0.0 c.0.0 f.0.0) _ _ _ (x, rest) f.2 in
-    let t0 = word_takes bytes a.0.0 a.0.1 fits a.1 in
-    let t1 = word_takes a.0.1 b.0.0 b.0.1 t0.0.rest_fits b.1 in
-    let t2 = word_takes b.0.1 c.0.0 c.0.1 t1.0.rest_fits c.1 in
-    let t3 = byte_takes c.0.1 d.0.0 d.0.1 t2.0.rest_fits d.1 in
-    let t4 = byte_takes d.0.1 f.0.0 f.0.1 t3.0.rest_fits f.1 in
-    let last = Takes-then c.0.1 (d.0.0 ∷ []) d.0.1 (f.0.0 ∷ []) f.0.1 t3.0 t4.0 in
-    let e1 = Takes-then bytes (word a.0.0) a.0.1 (word b.0.0) b.0.1 t0.0 t1.0 in
-    let e2 = Takes-then bytes (word a.0.0 ++ word b.0.0) b.0.1 (word c.0.0) c.0.1 e1 t2.0 in
-    let e3 = Takes-then bytes ((word a.0.0 ++ word b.0.0) ++ word c.0.0) c.0.1 (d.0.0 ∷ f.0.0 ∷ []) f.0.1 e2 last in
-    let made : Budget × List ℕ = (record { constant = a.0.0; factor = b.0.0; register = d.0.0; second_factor = c.0.0; second_register = f.0.0 }, f.0.1) in
-    subst (λ (y : Budget × List ℕ). Takes bytes (spelled_budget V2 y.0) y.1 × IsBudgetOf y.0) (ok_is made (x, rest) s.1)
-    (e3, record { constant = t0.1; factor = t1.1; register = q.0; second_factor = t2.1; second = s.0 })
+    after (number_at _ bytes) _ (x, rest) e (λ a is_a e1.
+    after (number_at _ a.1) _ (x, rest) e1 (λ b is_b e2.
+    after (number_at _ b.1) _ (x, rest) e2 (λ c is_c e3.
+    meeting (eqb c.0 0 || ltb 0 b.0) _ _ _ (x, rest) e3 (λ stands e4.
+    after (byte_at c.1) _ (x, rest) e4 (λ d is_d e5.
+    meeting (is_budget b.0 d.0) _ _ _ (x, rest) e5 (λ register e6.
+    after (byte_at d.1) _ (x, rest) e6 (λ f is_f e7.
+    meeting (is_second b.0 d.0 c.0 f.0) _ _ _ (x, rest) e7 (λ second e8.
+    let t0 = word_takes bytes a.0 a.1 fits is_a in
+    let t1 = word_takes a.1 b.0 b.1 t0.0.rest_fits is_b in
+    let t2 = word_takes b.1 c.0 c.1 t1.0.rest_fits is_c in
+    let t3 = byte_takes c.1 d.0 d.1 t2.0.rest_fits is_d in
+    let t4 = byte_takes d.1 f.0 f.1 t3.0.rest_fits is_f in
+    let last = Takes-then c.1 (d.0 ∷ []) d.1 (f.0 ∷ []) f.1 t3.0 t4.0 in
+    let w1 = Takes-then bytes (word a.0) a.1 (word b.0) b.1 t0.0 t1.0 in
+    let w2 = Takes-then bytes (word a.0 ++ word b.0) b.1 (word c.0) c.1 w1 t2.0 in
+    let w3 = Takes-then bytes ((word a.0 ++ word b.0) ++ word c.0) c.1 (d.0 ∷ f.0 ∷ []) f.1 w2 last in
+    let made : Budget × List ℕ = (record { constant = a.0; factor = b.0; register = d.0; second_factor = c.0; second_register = f.0 }, f.1) in
+    subst (λ (y : Budget × List ℕ). Takes bytes (spelled_budget V2 y.0) y.1 × IsBudgetOf y.0) (ok_is made (x, rest) e8)
+    (w3, record { constant = t0.1; factor = t1.1; register = register; second_factor = t2.1; second = second })))))))))
 
 pub budget_takes : (version : Version) (bytes : List ℕ) (x : Budget) (rest : List ℕ) → AreBytes bytes → budget_at version bytes ≡ Ok (x, rest) →
     Takes bytes (spelled_budget version x) rest × IsBudgetOf x × IsSingle version x
@@ -445,39 +445,39 @@ pub block_takes : (version : Version) (vlen : Vlen) (params : List Param) (from 
     Takes bytes (spelled_block version x) rest × IsBlock version vlen params from x
 unfolding block_at spelled_block
 block_takes version vlen params from bytes x rest fits e =
-    let a = bind_ok (number_at _ bytes) _ (x, rest) e in
-    let p = expected _ _ _ _ (x, rest) a.2 in
-    let b = bind_ok (budget_at version a.0.1) _ (x, rest) p.1 in
-    let c = bind_ok (vtype_at b.0.1) _ (x, rest) b.2 in
-    let d = bind_ok (counts_at version c.0.1) _ (x, rest) c.2 in
-    let f = bind_ok (facts_at params d.0.0.registers 1 d.0.1) _ (x, rest) d.2 in
-    let g = bind_ok (vectors_at vlen d.0.0.vectors 0 f.0.1) _ (x, rest) f.2 in
-    let h = bind_ok (orders_at f.0.0 d.0.0.orders 1 g.0.1) _ (x, rest) g.2 in
-    let q = expected _ _ _ _ (x, rest) h.2 in
-    let t0 = word_takes bytes a.0.0 a.0.1 fits a.1 in
-    let t1 = budget_takes version a.0.1 b.0.0 b.0.1 t0.0.rest_fits b.1 in
-    let t2 = vtype_takes b.0.1 c.0.0 c.0.1 t1.0.rest_fits c.1 in
-    let t3 = counts_takes version c.0.1 d.0.0 d.0.1 t2.0.rest_fits d.1 in
-    let t4 = many_takes (fact_at params) after_fact spelled_fact (IsRegisterFact params) (fact_takes params) d.0.0.registers 1 d.0.1 f.0.0 f.0.1 t3.0.rest_fits f.1 in
-    let t5 = many_takes (vector_at vlen) after_vector spelled_vector (IsVectorFact vlen) (vector_takes vlen) d.0.0.vectors 0 f.0.1 g.0.0 g.0.1 t4.0.rest_fits g.1 in
-    let t6 = many_takes (order_at f.0.0) after_order spelled_order (IsOrderFact f.0.0) (order_takes f.0.0) d.0.0.orders 1 g.0.1 h.0.0 h.0.1 t5.0.rest_fits h.1 in
-    let number = counts version (length f.0.0) (length g.0.0) (length h.0.0) in
-    let counted : Takes c.0.1 number d.0.1 = subst (λ (t : List ℕ). Takes c.0.1 t d.0.1) (same_counts version d.0.0.registers d.0.0.vectors d.0.0.orders (length f.0.0) (length g.0.0) (length h.0.0) t4.1 t5.1 t6.1) t3.0 in
-    let w = word a.0.0 in
-    let w1 = w ++ spelled_budget version b.0.0 in
-    let w2 = w1 ++ spelled_vtype c.0.0 in
+    after (number_at _ bytes) _ (x, rest) e (λ a is_a e1.
+    meeting _ _ _ _ (x, rest) e1 (λ start e2.
+    after (budget_at version a.1) _ (x, rest) e2 (λ b is_b e3.
+    after (vtype_at b.1) _ (x, rest) e3 (λ c is_c e4.
+    after (counts_at version c.1) _ (x, rest) e4 (λ d is_d e5.
+    after (facts_at params d.0.registers 1 d.1) _ (x, rest) e5 (λ f is_f e6.
+    after (vectors_at vlen d.0.vectors 0 f.1) _ (x, rest) e6 (λ g is_g e7.
+    after (orders_at f.0 d.0.orders 1 g.1) _ (x, rest) e7 (λ h is_h e8.
+    meeting _ _ _ _ (x, rest) e8 (λ free e9.
+    let t0 = word_takes bytes a.0 a.1 fits is_a in
+    let t1 = budget_takes version a.1 b.0 b.1 t0.0.rest_fits is_b in
+    let t2 = vtype_takes b.1 c.0 c.1 t1.0.rest_fits is_c in
+    let t3 = counts_takes version c.1 d.0 d.1 t2.0.rest_fits is_d in
+    let t4 = many_takes (fact_at params) after_fact spelled_fact (IsRegisterFact params) (fact_takes params) d.0.registers 1 d.1 f.0 f.1 t3.0.rest_fits is_f in
+    let t5 = many_takes (vector_at vlen) after_vector spelled_vector (IsVectorFact vlen) (vector_takes vlen) d.0.vectors 0 f.1 g.0 g.1 t4.0.rest_fits is_g in
+    let t6 = many_takes (order_at f.0) after_order spelled_order (IsOrderFact f.0) (order_takes f.0) d.0.orders 1 g.1 h.0 h.1 t5.0.rest_fits is_h in
+    let number = counts version (length f.0) (length g.0) (length h.0) in
+    let counted : Takes c.1 number d.1 = subst (λ (t : List ℕ). Takes c.1 t d.1) (same_counts version d.0.registers d.0.vectors d.0.orders (length f.0) (length g.0) (length h.0) t4.1 t5.1 t6.1) t3.0 in
+    let w = word a.0 in
+    let w1 = w ++ spelled_budget version b.0 in
+    let w2 = w1 ++ spelled_vtype c.0 in
     let w3 = w2 ++ number in
-    let w4 = w3 ++ flat_map spelled_fact f.0.0 in
-    let e1 = Takes-then bytes w a.0.1 (spelled_budget version b.0.0) b.0.1 t0.0 t1.0 in
-    let e2 = Takes-then bytes w1 b.0.1 (spelled_vtype c.0.0) c.0.1 e1 t2.0 in
-    let e3 = Takes-then bytes w2 c.0.1 number d.0.1 e2 counted in
-    let e4 = Takes-then bytes w3 d.0.1 (flat_map spelled_fact f.0.0) f.0.1 e3 t4.0 in
-    let e5 = Takes-then bytes w4 f.0.1 (flat_map spelled_vector g.0.0) g.0.1 e4 t5.0 in
-    let e6 = Takes-then bytes (w4 ++ flat_map spelled_vector g.0.0) g.0.1 (flat_map spelled_order h.0.0) h.0.1 e5 t6.0 in
-    let made : Block × List ℕ = (record { start = a.0.0; budget = b.0.0; vtype = c.0.0; registers = record { items = f.0.0 }; vectors = record { items = g.0.0 }; orders = record { items = h.0.0 } }, h.0.1) in
-    let of = of_version version made.0 d.0.0.orders t1.2 t3.1.none t6.1 in
-    subst (λ (y : Block × List ℕ). Takes bytes (spelled_block version y.0) y.1 × IsBlock version vlen params from y.0) (ok_is made (x, rest) q.1)
-    (e6, record { start = p.0; start_fits = t0.1; budget = t1.1; vtype = t2.1; few_registers = few_along (length f.0.0) d.0.0.registers t4.1 t3.1.registers_few; few_vectors = few_along (length g.0.0) d.0.0.vectors t5.1 t3.1.vectors_few; few_orders = few_along (length h.0.0) d.0.0.orders t6.1 t3.1.orders_few; registers = t4.2; vectors = t5.2; orders = t6.2; free = q.0; of = of })
+    let w4 = w3 ++ flat_map spelled_fact f.0 in
+    let to1 = Takes-then bytes w a.1 (spelled_budget version b.0) b.1 t0.0 t1.0 in
+    let to2 = Takes-then bytes w1 b.1 (spelled_vtype c.0) c.1 to1 t2.0 in
+    let to3 = Takes-then bytes w2 c.1 number d.1 to2 counted in
+    let to4 = Takes-then bytes w3 d.1 (flat_map spelled_fact f.0) f.1 to3 t4.0 in
+    let to5 = Takes-then bytes w4 f.1 (flat_map spelled_vector g.0) g.1 to4 t5.0 in
+    let to6 = Takes-then bytes (w4 ++ flat_map spelled_vector g.0) g.1 (flat_map spelled_order h.0) h.1 to5 t6.0 in
+    let made : Block × List ℕ = (record { start = a.0; budget = b.0; vtype = c.0; registers = record { items = f.0 }; vectors = record { items = g.0 }; orders = record { items = h.0 } }, h.1) in
+    let of = of_version version made.0 d.0.orders t1.2 t3.1.none t6.1 in
+    subst (λ (y : Block × List ℕ). Takes bytes (spelled_block version y.0) y.1 × IsBlock version vlen params from y.0) (ok_is made (x, rest) e9)
+    (to6, record { start = start; start_fits = t0.1; budget = t1.1; vtype = t2.1; few_registers = few_along (length f.0) d.0.registers t4.1 t3.1.registers_few; few_vectors = few_along (length g.0) d.0.vectors t5.1 t3.1.vectors_few; few_orders = few_along (length h.0) d.0.orders t6.1 t3.1.orders_few; registers = t4.2; vectors = t5.2; orders = t6.2; free = free; of = of }))))))))))
 
 pub block_again : (version : Version) (vlen : Vlen) (params : List Param) (from : ℕ) (x : Block) (rest : List ℕ) → IsBlock version vlen params from x → block_at version vlen params from (spelled_block version x ++ rest) ≡ Ok (x, rest)
 unfolding block_at spelled_block

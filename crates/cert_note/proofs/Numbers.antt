@@ -23,10 +23,17 @@ pub bind_ok : {A B : Type 0} (r : Result A Fault) (f : A → Result B Fault) (y 
 bind_ok (Ok x) f y e = (x, refl, e)
 bind_ok (Err d) f y e = absurd (cc)
 
+-- The same, where what is proved of the value takes it as a variable: many steps then stay small terms.
+pub after : {A B : Type 0} {P : Type 0} (r : Result A Fault) (f : A → Result B Fault) (y : B) → (r >>= f) ≡ Ok y → ((x : A) → r ≡ Ok x → f x ≡ Ok y → P) → P
+after r f y e goes_on = let x = bind_ok r f y e in goes_on x.0 x.1 x.2
+
 -- a condition that held
 pub expected : {B : Type 0} (b : Bool) (e : CertError) (behind : List ℕ) (f : Unit {0} → Result B Fault) (y : B) → (expect b e behind >>= f) ≡ Ok y → (b ≡ true) × (f tt ≡ Ok y)
 expected true e behind f y h = (refl, h)
 expected false e behind f y h = absurd (cc)
+
+pub meeting : {B P : Type 0} (b : Bool) (e : CertError) (behind : List ℕ) (f : Unit {0} → Result B Fault) (y : B) → (expect b e behind >>= f) ≡ Ok y → (b ≡ true → f tt ≡ Ok y → P) → P
+meeting b e behind f y h goes_on = let x = expected b e behind f y h in goes_on x.0 x.1
 
 -- a value that was there
 pub found : {A B : Type 0} (o : Option A) (fault : Fault) (f : A → Result B Fault) (y : B) → (ok_or o fault >>= f) ≡ Ok y → (x : A) × (o ≡ Some x) × (f x ≡ Ok y)

@@ -19,7 +19,7 @@ use Rattle.cert_note.specs.Spelling.{version_code, vlen_code, header, parameter_
 use Rattle.cert_note.specs.Reading.{byte_at, number_at, zero_at, zeros_at, version_of, vlen_of, header_at, is_mode, is_first_number, is_second_number, param_of, parameter_at, parameters_at, block_at, blocks_at, count_at, front_at, blocks_behind, nothing_at, reading_of, certificate_of, parameter_from, after_parameter, ◌>>=◌}
 use Rattle.elf_image.specs.Words.{AreBytes}
 pub use Rattle.cert_note.specs.ParameterLemmas.{valid_all}
-use Rattle.cert_note.proofs.Numbers.{bind_ok, expected, found, ok_is, Takes, Takes-then, byte_takes, byte_again, half_takes, half_again, word_takes, word_again, zero_takes, zero_again, zeros_takes, zeros_again, many_takes, many_again}
+use Rattle.cert_note.proofs.Numbers.{bind_ok, after, expected, meeting, found, ok_is, Takes, Takes-then, byte_takes, byte_again, half_takes, half_again, word_takes, word_again, zero_takes, zero_again, zeros_takes, zeros_again, many_takes, many_again}
 use Rattle.cert_note.proofs.Laws.{chosen, some_is, block_takes, block_again, regroup3, regroup4}
 
 -- ---- the header
@@ -103,28 +103,28 @@ means (suc (suc (suc kind))) code a b le mode first second small = absurd (grind
 parameter_takes : (bytes : List ℕ) (x : Param) (rest : List ℕ) → AreBytes bytes → parameter_at bytes ≡ Ok (x, rest) → Takes bytes (spelled_parameter x) rest × IsParameter x
 unfolding parameter_at parameter_of
 parameter_takes bytes x rest fits e =
-    let a = bind_ok (byte_at bytes) _ (x, rest) e in
-    let p = expected (leb a.0.0 2) _ _ _ (x, rest) a.2 in
-    let b = bind_ok (byte_at a.0.1) _ (x, rest) p.1 in
-    let c = expected (is_mode a.0.0 b.0.0) _ _ _ (x, rest) b.2 in
-    let d = bind_ok (zeros_at error.Parameter b.0.1) _ (x, rest) c.1 in
-    let f = bind_ok (number_at _ d.0) _ (x, rest) d.2 in
-    let q = expected (is_first_number a.0.0 f.0.0) _ _ _ (x, rest) f.2 in
-    let g = bind_ok (number_at _ f.0.1) _ (x, rest) q.1 in
-    let r = expected (is_second_number a.0.0 f.0.0 g.0.0) _ _ _ (x, rest) g.2 in
-    let t0 = byte_takes bytes a.0.0 a.0.1 fits a.1 in
-    let t1 = byte_takes a.0.1 b.0.0 b.0.1 t0.0.rest_fits b.1 in
-    let t2 = zeros_takes error.Parameter b.0.1 d.0 t1.0.rest_fits d.1 in
-    let t3 = word_takes d.0 f.0.0 f.0.1 t2.rest_fits f.1 in
-    let t4 = word_takes f.0.1 g.0.0 g.0.1 t3.0.rest_fits g.1 in
-    let k = a.0.0 ∷ b.0.0 ∷ [] in
-    let e1 = Takes-then bytes (a.0.0 ∷ []) a.0.1 (b.0.0 ∷ []) b.0.1 t0.0 t1.0 in
-    let e2 = Takes-then bytes k b.0.1 (half 0) d.0 e1 t2 in
-    let e3 = Takes-then bytes (k ++ half 0) d.0 (word f.0.0) f.0.1 e2 t3.0 in
-    let e4 = Takes-then bytes ((k ++ half 0) ++ word f.0.0) f.0.1 (word g.0.0) g.0.1 e3 t4.0 in
-    let m = means a.0.0 b.0.0 f.0.0 g.0.0 p.0 c.0 q.0 r.0 t4.1 in
-    subst (λ (y : Param × List ℕ). Takes bytes (spelled_parameter y.0) y.1 × IsParameter y.0) (ok_is (param_of a.0.0 b.0.0 f.0.0 g.0.0, g.0.1) (x, rest) r.1)
-    (subst (λ (t : List ℕ). Takes bytes t g.0.1) m.spelled e4, m.valid)
+    after (byte_at bytes) _ (x, rest) e (λ a is_a e1.
+    meeting (leb a.0 2) _ _ _ (x, rest) e1 (λ kind e2.
+    after (byte_at a.1) _ (x, rest) e2 (λ b is_b e3.
+    meeting (is_mode a.0 b.0) _ _ _ (x, rest) e3 (λ mode e4.
+    after (zeros_at error.Parameter b.1) _ (x, rest) e4 (λ c is_c e5.
+    after (number_at _ c) _ (x, rest) e5 (λ d is_d e6.
+    meeting (is_first_number a.0 d.0) _ _ _ (x, rest) e6 (λ first e7.
+    after (number_at _ d.1) _ (x, rest) e7 (λ f is_f e8.
+    meeting (is_second_number a.0 d.0 f.0) _ _ _ (x, rest) e8 (λ second e9.
+    let t0 = byte_takes bytes a.0 a.1 fits is_a in
+    let t1 = byte_takes a.1 b.0 b.1 t0.0.rest_fits is_b in
+    let t2 = zeros_takes error.Parameter b.1 c t1.0.rest_fits is_c in
+    let t3 = word_takes c d.0 d.1 t2.rest_fits is_d in
+    let t4 = word_takes d.1 f.0 f.1 t3.0.rest_fits is_f in
+    let k = a.0 ∷ b.0 ∷ [] in
+    let w1 = Takes-then bytes (a.0 ∷ []) a.1 (b.0 ∷ []) b.1 t0.0 t1.0 in
+    let w2 = Takes-then bytes k b.1 (half 0) c w1 t2 in
+    let w3 = Takes-then bytes (k ++ half 0) c (word d.0) d.1 w2 t3.0 in
+    let w4 = Takes-then bytes ((k ++ half 0) ++ word d.0) d.1 (word f.0) f.1 w3 t4.0 in
+    let m = means a.0 b.0 d.0 f.0 kind mode first second t4.1 in
+    subst (λ (y : Param × List ℕ). Takes bytes (spelled_parameter y.0) y.1 × IsParameter y.0) (ok_is (param_of a.0 b.0 d.0 f.0, f.1) (x, rest) e9)
+    (subst (λ (t : List ℕ). Takes bytes t f.1) m.spelled w4, m.valid))))))))))
 
 numbers_again : (kind code a b : ℕ) (rest : List ℕ) → leb kind 2 ≡ true → is_mode kind code ≡ true → is_first_number kind a ≡ true → is_second_number kind a b ≡ true → a < 2 ^ 32 → b < 2 ^ 32 →
     parameter_at (parameter_of kind code a b ++ rest) ≡ Ok (param_of kind code a b, rest)
