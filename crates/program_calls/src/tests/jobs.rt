@@ -21,13 +21,3 @@ fn reads_a_job_that_keeps_the_rules(rt: HostRuntime) {
     assert!(rt; job.max == Some(7));
     assert!(rt; job.vlen.is_none());
 }
-
-/// A key that is none comes before a value that is wrong.
-#[test]
-fn tells_the_first_rule_that_is_broken(rt: HostRuntime) {
-    let table = given!(rt; job_file::parse(rt.alloc(), "vlen = 100\nvlne = 128\n"));
-    match kept_job_in(&table) {
-        Ok(_) => panic!(rt; "no rule is broken"),
-        Err(breach) => assert_shows(rt, rt.alloc(), breach, "no key of the job: vlne"),
-    }
-}

@@ -3,20 +3,13 @@ use crate::tests::assertions::given;
 use crate::tests::performances::{performed, performed_words};
 use crate::tests::system::{IMAGE, JOB};
 use commands::{
-    Counted, MakePaths, Memory, Over, Status, Store, check_memory, make_memory, mon_job_within,
-    mon_memory, run_memory, try_memory,
+    Counted, MakePaths, Memory, Over, Status, Store, StoreError, check_memory, make_memory,
+    mon_job_within, mon_memory, run_memory, try_memory,
 };
 use hex::decode;
 use std::alloc::Global;
+use std::io::ErrorKind;
 use std::process::Abort;
-
-/// Buffers at the last two places alone.
-const PARAMS: &str = "\
-param = [{ kind = \"none\" }, { kind = \"none\" }, { kind = \"none\" }, { kind = \"none\" },
-    { kind = \"none\" }, { kind = \"none\" },
-    { kind = \"buffer\", mode = \"r\", file = \"a6.bin\" },
-    { kind = \"buffer\", mode = \"r\", file = \"a7.bin\" }]
-";
 
 /// What `try` tells of the run of one instruction, with the registers.
 const SHOWN: &str = "ended: 1 steps
@@ -101,37 +94,6 @@ fn makes_no_certificate_of_an_image_that_has_one(rt: HostRuntime) {
     assert!(rt; memory.get("one.toml") == Some(JOB.as_bytes()));
 }
 
-/// Asserts that a line is refused so.
-fn refuses(rt: impl Abort + Copy, alloc: Global, memory: &mut Memory, line: &str, text: &str) {
-    let came = performed(rt, alloc, line, memory, b"".as_slice());
-    assert!(rt; came.output.is_empty());
-    assert!(rt; came.errors.as_slice() == text.as_bytes());
-}
-
-#[test]
-fn tells_the_first_place_whose_file_is_not_read(rt: HostRuntime) {
-    let alloc = rt.alloc();
-    let mut memory = files(rt, alloc);
-    let job = given!(rt; format!(in alloc; "{JOB}{PARAMS}"));
-    given!(rt; memory.write("two.toml", job.as_bytes()));
-    let none = "file: a6.bin\n  the system says: entity not found\n";
-    refuses(
-        rt,
-        alloc,
-        &mut memory,
-        "rvvbox try --explain two.toml",
-        none,
-    );
-    given!(rt; memory.refuse_reads("one.toml"));
-    refuses(
-        rt,
-        alloc,
-        &mut memory,
-        "rvvbox try one.toml",
-        "file: one.toml\n",
-    );
-}
-
 #[test]
 fn tells_no_more_of_an_input_that_is_read_too_often(rt: HostRuntime) {
     let alloc = rt.alloc();
@@ -156,53 +118,33 @@ fn tells_no_more_of_an_input_that_is_read_too_often(rt: HostRuntime) {
 #[test]
 fn tells_control_characters_by_their_codes(rt: HostRuntime) {
     let alloc = rt.alloc();
-    let mut memory = files(rt, alloc);
+    let mut memory = Memory::new(alloc);
     let job = "image = \"a\\n\\u001b\\u009b.elf\"\nvlen = 128\nagnostic = \"keep\"\nmax = 1\n";
     given!(rt; memory.write("two.toml", job.as_bytes()));
-    let none = "file: a\\u{a}\\u{1b}\\u{9b}.elf\n";
-    refuses(rt, alloc, &mut memory, "rvvbox try two.toml", none);
+    let came = performed(
+        rt,
+        alloc,
+        "rvvbox try two.toml",
+        &mut memory,
+        b"".as_slice(),
+    );
+    assert!(rt; came.output.is_empty());
+    assert!(rt; came.errors.as_slice() == b"file: a\\u{a}\\u{1b}\\u{9b}.elf\n".as_slice());
 }
 
 #[test]
-fn writes_no_file_that_is_refused(rt: HostRuntime) {
+fn writes_and_reads_no_file_that_is_refused(rt: HostRuntime) {
     let mut memory = Memory::new(rt.alloc());
     given!(rt; memory.write("one", b"1".as_slice()));
     given!(rt; memory.write("one", b"2".as_slice()));
     given!(rt; memory.refuse_writes("one"));
     assert!(rt; memory.write("one", b"3".as_slice()).is_err());
     assert!(rt; memory.get("one") == Some(b"2".as_slice()));
-}
-
-/// Asserts that two lines print the same, and that it is something.
-fn alike(rt: impl Abort + Copy, alloc: Global, one: &str, other: &str) {
-    let mut memory = Memory::new(alloc);
-    let came = performed(rt, alloc, one, &mut memory, b"".as_slice());
-    let again = performed(rt, alloc, other, &mut memory, b"".as_slice());
-    assert!(rt; came.status == Status::Done && again.status == Status::Done);
-    assert!(rt; came.output.as_slice() == again.output.as_slice() && !came.output.is_empty());
-}
-
-#[test]
-fn tells_help_of_a_subcommand_in_two_ways(rt: HostRuntime) {
-    let alloc = rt.alloc();
-    alike(rt, alloc, "rvvbox help", "rvvbox --help");
-    for (one, other) in [
-        ("rvvbox help check", "rvvbox check --help"),
-        ("rvvbox help run", "rvvbox run --help"),
-        ("rvvbox help mon", "rvvbox mon --help"),
-        ("rvvbox make --version", "rvvbox --version"),
-    ] {
-        alike(rt, alloc, one, other);
+    given!(rt; memory.refuse_reads("one"));
+    for path in ["one", "two"] {
+        assert!(rt; memory.read(rt.alloc(), path, 1).err() == Some(StoreError::Failed));
+        assert!(rt; memory.last_failure() == Some(ErrorKind::NotFound));
     }
-}
-
-#[test]
-fn touches_no_file_where_the_words_are_refused(rt: HostRuntime) {
-    let mut memory = Memory::new(rt.alloc());
-    let words = "rvvbox check one two";
-    let came = performed(rt, rt.alloc(), words, &mut memory, b"".as_slice());
-    assert!(rt; came.status == Status::Usage);
-    assert!(rt; memory.get("one").is_none());
 }
 
 /// Asserts that words are refused, and that what is told of them shows a text, and no control character but ends of lines.
@@ -237,5 +179,4 @@ fn tells_control_characters_of_words_by_their_codes(rt: HostRuntime) {
         &["rvvbox", "check", "one", "t\nwo"],
         "'t\\u{a}wo'",
     );
-    shows(rt, alloc, &["rvvbox", "check", "one", "two"], "'two'");
 }

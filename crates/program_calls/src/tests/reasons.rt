@@ -1,10 +1,8 @@
-//! Why files, certificates and images are refused: those of the kernel that sums bytes, with a byte changed.
+//! Why certificates and images are refused: those of the kernel that sums bytes, with a byte changed.
 use crate::tests::assertions::{assert_shows, found, given};
-use block_checker::check_kept;
-use cert_note::{Budget, CertError, Certificate, Vlen};
-use check_reasons::{CheckReason, check_reason, reason_of};
-use elf_image::{ElfError, Image};
-use explanations::{certificate_reason, image_reason, refusal_reason};
+use cert_note::{Budget, CertError, Vlen};
+use check_reasons::{CheckReason, check_reason};
+use explanations::certificate_reason;
 use hex::decode;
 use sample_kernels::SUM;
 use std::alloc::Global;
@@ -23,49 +21,16 @@ fn changed(rt: impl Abort + Copy, alloc: Global, digits: &str, place: usize, byt
     bytes
 }
 
-/// Another machine than RISC-V.
-#[test]
-fn tells_a_field_of_a_file(rt: HostRuntime) {
-    let file = changed(rt, rt.alloc(), FILE, 18, 62);
-    let reason = image_reason(&file, ElfError::BadMachine);
-    let expected = "  e_machine at byte 18 of the file: 62 (0x0000003e)
-  wanted: 243, RISC-V
-  remedy: compile with --target=riscv32
-";
-    assert_shows(rt, rt.alloc(), reason, expected);
-}
-
-/// What is told where the start of the second block is below that of the first.
-const ORDER: &str = "  reading stopped behind byte 171 of 261
-  in block 1, counted from 0
-  wanted: a multiple of 4 above the start of the block before
-";
-
+/// The start of the second block is below that of the first.
 #[test]
 fn tells_a_place_in_a_certificate(rt: HostRuntime) {
     let bytes = changed(rt, rt.alloc(), SUM.certificate, 169, 0);
     let reason = given!(rt; certificate_reason(rt.alloc(), &bytes, CertError::BlockOrder));
-    assert_shows(rt, rt.alloc(), reason, ORDER);
-}
-
-/// The bytes are read once.
-#[test]
-fn keeps_a_place_in_a_certificate(rt: HostRuntime) {
-    let bytes = changed(rt, rt.alloc(), SUM.certificate, 169, 0);
-    let refusal = found!(rt; cert_note::read_kept(rt.alloc(), &bytes).err());
-    assert_shows(rt, rt.alloc(), refusal_reason(&bytes, refusal), ORDER);
-}
-
-/// A byte behind the blocks lies in none of them.
-#[test]
-fn keeps_a_place_behind_a_certificate(rt: HostRuntime) {
-    let mut bytes = given!(rt; decode(rt.alloc(), SUM.certificate));
-    given!(rt; bytes.push(0));
-    let refusal = found!(rt; cert_note::read_kept(rt.alloc(), &bytes).err());
-    let expected = "  reading stopped behind byte 262 of 262
-  wanted: no bytes behind the last block
+    let expected = "  reading stopped behind byte 171 of 261
+  in block 1, counted from 0
+  wanted: a multiple of 4 above the start of the block before
 ";
-    assert_shows(rt, rt.alloc(), refusal_reason(&bytes, refusal), expected);
+    assert_shows(rt, rt.alloc(), reason, expected);
 }
 
 #[test]
@@ -80,32 +45,13 @@ fn tells_a_budget(rt: HostRuntime) {
     assert_shows(rt, rt.alloc(), budget, "1 + 2 * x10 + 3 * x11");
 }
 
-/// The image and the certificate of the kernel's file with a byte changed.
-fn parts(rt: impl Abort + Copy, alloc: Global, place: usize, byte: u8) -> (Image, Certificate) {
+/// What is told of the image and the certificate of the kernel's file with a byte changed.
+fn told(rt: impl Abort + Copy, alloc: Global, place: usize, byte: u8) -> Option<CheckReason> {
     let file = changed(rt, alloc, FILE, place, byte);
     let image = given!(rt; elf_image::read(alloc, &file));
     let bytes = given!(rt; decode(alloc, SUM.certificate));
-    (image, given!(rt; cert_note::read(alloc, &bytes)))
-}
-
-/// What is told of it.
-fn told(rt: impl Abort + Copy, alloc: Global, place: usize, byte: u8) -> Option<CheckReason> {
-    let (image, certificate) = parts(rt, alloc, place, byte);
+    let certificate = given!(rt; cert_note::read(alloc, &bytes));
     given!(rt; check_reason(alloc, &image, &certificate, Vlen::V128))
-}
-
-/// The same, by what its check kept.
-fn told_of_kept(
-    rt: impl Abort + Copy,
-    alloc: Global,
-    place: usize,
-    byte: u8,
-) -> Option<CheckReason> {
-    let (image, certificate) = parts(rt, alloc, place, byte);
-    match check_kept(alloc, image, certificate, Vlen::V128) {
-        Ok(_) => None,
-        Err(refused) => Some(given!(rt; reason_of(alloc, &refused, Vlen::V128))),
-    }
 }
 
 /// lbu t0,4(a0): the last bytes lie behind the buffer. lbu t0,0(a0), as it is: nothing is told of what passes.
@@ -124,8 +70,6 @@ fn tells_a_word_of_an_image(rt: HostRuntime) {
     from 0x40000000 and below 0x40000400: read
 ";
     let reason = found!(rt; told(rt, rt.alloc(), 90, 0x45));
-    assert_shows(rt, rt.alloc(), reason, expected);
-    let reason = found!(rt; told_of_kept(rt, rt.alloc(), 90, 0x45));
     assert_shows(rt, rt.alloc(), reason, expected);
     assert!(rt; told(rt, rt.alloc(), 90, 0x05).is_none());
 }
