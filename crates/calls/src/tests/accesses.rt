@@ -2,9 +2,10 @@
 
 use crate::tests::assertions::assert_same;
 use crate::tests::fixture::memory;
+use region_mem::Fault::StoreFault;
 use region_mem::{Fault, Regions, Right};
+use rv_decode::Direction::{Load, Store};
 use rv_decode::{Addressing, Count, Direction, Insn, Reg, VMem, Width};
-use std::process::Abort;
 use vector_mem::{Access, access, load, store};
 use vreg_groups::{Agnostic, Avl, Setup, Vconfig, VregFile, legal_type, vset};
 
@@ -48,60 +49,34 @@ fn moved(
     Ok(plan.as_slice().first().copied())
 }
 
-/// From an address on downwards.
-fn assert_strided(rt: impl Abort + Copy, machine: &mut Machine) {
-    let strided = Addressing::Strided {
-        width: Width::W16,
-        rs2: Reg::new(11),
-        masked: false,
-    };
-    let minus_two = 0xffff_fffe;
-    let first = moved(machine, Direction::Load, strided, 0x2004, minus_two);
-    let access = Access {
-        element: 0,
-        address: 0x2004,
-        size: 2,
-        right: Right::Read,
-    };
-    assert_same!(rt; first, Ok(Some(access)));
-    // 0x0605, 0xfffe and 0x0201, and the tail of ones
-    let v8 = Reg::new(8);
-    assert_same!(rt; machine.registers.byte(v8, 0), 0x05);
-    assert_same!(rt; machine.registers.byte(v8, 3), 0xff);
-    assert_same!(rt; machine.registers.byte(v8, 4), 0x01);
-    assert_same!(rt; machine.registers.byte(v8, 6), 0xff);
-}
+/// The stride of elements that each lie two bytes below the one before.
+const DOWN: u32 = 0xffff_fffe;
 
-/// A whole register, four bytes of which are past the end: the word at 0x2010.
-fn assert_past_the_end(rt: impl Abort + Copy, machine: &mut Machine) {
-    let whole = Addressing::Whole {
-        width: Width::W32,
-        count: Count::One,
-    };
-    let past = moved(machine, Direction::Store, whole, 0x2004, 0);
-    assert_same!(rt; past, Err(Fault::StoreFault(0x2010)));
-    assert_same!(rt; machine.memory.byte(0x2004), Some(0x05));
-}
+const WHOLE: Addressing = Addressing::Whole {
+    width: Width::W32,
+    count: Count::One,
+};
 
-/// One byte of a mask, though it has three bits.
-fn assert_mask(rt: impl Abort + Copy, machine: &mut Machine) {
-    let came = moved(machine, Direction::Load, Addressing::Mask, 0x2001, 0);
-    assert_same!(rt; came.is_ok(), true);
-    assert_same!(rt; machine.registers.byte(Reg::new(8), 0), 0x02);
-    assert_same!(rt; machine.registers.byte(Reg::new(8), 1), 0xff);
-}
+/// The first access of the strided load, and that of the mask.
+const STRIDED: Access = Access {
+    element: 0,
+    address: 0x2004,
+    size: 2,
+    right: Right::Read,
+};
 
-/// To 0x2000 plus the bytes 2, 255 and 255 of v8 itself.
-fn assert_indexed(rt: impl Abort + Copy, machine: &mut Machine) {
-    let indexed = Addressing::Indexed {
-        width: Width::W8,
-        vs2: Reg::new(8),
-        ordered: false,
-        masked: false,
-    };
-    let far = moved(machine, Direction::Store, indexed, 0x2000, 0);
-    assert_same!(rt; far, Err(Fault::StoreFault(0x20ff)));
-}
+const MASK: Access = Access {
+    element: 0,
+    address: 0x2001,
+    size: 1,
+    right: Right::Read,
+};
+
+/// The bytes 0, 1, 3, 4 and 6 of v8 behind the strided load: 0x0605, 0xfffe and 0x0201, and the tail of ones.
+const LOADED: [u8; 5] = [0x05, 0x06, 0xff, 0x01, 0xff];
+
+/// Behind the load of the mask: one byte, though the mask has three bits, and the tail of ones.
+const MASKED: [u8; 5] = [0x02, 0xff, 0xff, 0xff, 0xff];
 
 #[test]
 fn elements_are_moved(rt: HostRuntime) {
@@ -109,8 +84,35 @@ fn elements_are_moved(rt: HostRuntime) {
         registers: VregFile::<16>::new(),
         memory: memory(rt, rt.alloc()),
     };
-    assert_strided(rt, &mut machine);
-    assert_past_the_end(rt, &mut machine);
-    assert_mask(rt, &mut machine);
-    assert_indexed(rt, &mut machine);
+    let v8 = Reg::new(8);
+    let strided = Addressing::Strided {
+        width: Width::W16,
+        rs2: Reg::new(11),
+        masked: false,
+    };
+    let indexed = Addressing::Indexed {
+        width: Width::W8,
+        vs2: v8,
+        ordered: false,
+        masked: false,
+    };
+    for (direction, place, base, stride, expected, bytes) in [
+        (Load, strided, 0x2004, DOWN, Ok(Some(STRIDED)), LOADED),
+        (Store, WHOLE, 0x2004, 0, Err(StoreFault(0x2010)), LOADED), // four bytes past the end
+        (Load, Addressing::Mask, 0x2001, 0, Ok(Some(MASK)), MASKED),
+        (Store, indexed, 0x2000, 0, Err(StoreFault(0x20ff)), MASKED), // to 2, 255 and 255 of v8 itself
+    ] {
+        let came = moved(&mut machine, direction, place, base, stride);
+        assert_same!(rt; came, expected);
+        let Machine { registers, memory } = &machine;
+        let came = [
+            registers.byte(v8, 0),
+            registers.byte(v8, 1),
+            registers.byte(v8, 3),
+            registers.byte(v8, 4),
+            registers.byte(v8, 6),
+        ];
+        assert_same!(rt; came, bytes);
+        assert_same!(rt; memory.byte(0x2004), Some(0x05));
+    }
 }

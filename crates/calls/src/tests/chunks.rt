@@ -6,13 +6,12 @@ use lane_fixed::{
     chunk_u32 as fixed_u32,
 };
 use lane_int::{Op, chunk_u8, chunk_u16, chunk_u32};
-use rv_decode::{CompareOp, LogicOp, MultiplyAddOp, Reg};
+use rv_decode::{CompareOp, LogicOp, MultiplyAddOp};
 use std::simd::prelude::*;
-use std::test::Fail;
-use vreg_groups::{VregFile, choose};
+use vreg_groups::choose;
 
 #[test]
-fn chunk_of_bytes(rt: HostRuntime) {
+fn chunks_are_computed(rt: HostRuntime) {
     let values = u8x16::from_array([
         0x80, 0x7f, 0xff, 0x0, 0x1, 0x7, 0xfe, 0x83, 0xa5, 0x4d, 0xca, 0x18, 0x25, 0x30, 0xbb, 0x1d,
     ]);
@@ -24,19 +23,11 @@ fn chunk_of_bytes(rt: HostRuntime) {
         0xc0, 0x7f, 0xff, 0x0, 0x0, 0x0, 0xff, 0xe0, 0xfd, 0x9, 0xfc, 0x0, 0x0, 0x6, 0xf7, 0x0,
     ];
     assert_same!(rt; lanes, expected);
-}
-
-#[test]
-fn chunk_of_halves(rt: HostRuntime) {
     let values = u16x8::from_array([0x8000, 0x7fff, 0xffff, 0x0, 0x1, 0x7, 0xfffe, 0x8003]);
     let b = u16x8::from_array([0x1, 0x8000, 0x1, 0xffff, 0x13, 0x7ffe, 0xf, 0x2]);
     let lanes = chunk_u16(Op::Compare(CompareOp::Lt), values, b, b).to_array();
     let expected = [0xffff, 0x0, 0xffff, 0x0, 0xffff, 0xffff, 0xffff, 0xffff];
     assert_same!(rt; lanes, expected);
-}
-
-#[test]
-fn chunk_of_words(rt: HostRuntime) {
     let values = u32x4::from_array([0x8000_0000, 0x7fff_ffff, 0xffff_ffff, 0x7]);
     let b = u32x4::from_array([0x3, 0x8000_0000, 0x21, 0xffff_fffe]);
     let old = u32x4::from_array([0x5, 0x2a, 0x4f, 0x74]);
@@ -45,7 +36,7 @@ fn chunk_of_words(rt: HostRuntime) {
 }
 
 #[test]
-fn a_chunk_of_bytes_saturates(rt: HostRuntime) {
+fn chunks_of_bytes_and_halves_saturate(rt: HostRuntime) {
     let a = u8x16::from_array([
         0, 1, 0x7f, 0x80, 0xff, 0x7f, 0x80, 0x64, 0xc8, 0x32, 5, 0xfb, 3, 0xfd, 0x81, 0x40,
     ]);
@@ -61,32 +52,22 @@ fn a_chunk_of_bytes_saturates(rt: HostRuntime) {
         0, 0, 0xff, 0xff, 0, 0xff, 0xff, 0xff, 0, 0, 0, 0, 0, 0, 0, 0xff,
     ];
     assert_same!(rt; flags.to_array(), saturated);
-}
-
-#[test]
-fn a_chunk_of_halves_saturates(rt: HostRuntime) {
     let a = u16x8::from_array([0x7fff, 0x8000, 0x1234, 0xffff, 1, 0x8001, 0xff, 0x4000]);
     let b = u16x8::from_array([0xffff, 1, 4, 0xffff, 2, 2, 0x10, 0xc000]);
     let (left, flags) = fixed_u16(FixedOp::Ssub, a, b, b);
     let expected = [0x7fff, 0x8000, 0x1230, 0, 0xffff, 0x8000, 0xef, 0x7fff];
     assert_same!(rt; left.to_array(), expected);
-    assert_same!(rt;
-        flags.to_array(),
-        [0xffff, 0xffff, 0, 0, 0, 0xffff, 0, 0xffff]
-    );
+    let saturated = [0xffff, 0xffff, 0, 0, 0, 0xffff, 0, 0xffff];
+    assert_same!(rt; flags.to_array(), saturated);
 }
 
 #[test]
-fn a_chunk_of_words_saturates(rt: HostRuntime) {
+fn chunks_of_words_saturate_and_are_rounded(rt: HostRuntime) {
     let a = u32x4::from_array([0x7fff_ffff, 0, 0x1234_5678, 0xffff_ffff]);
     let b = u32x4::from_array([1, 1, 0x1234_5679, 0x8000_0000]);
     let (left, flags) = fixed_u32(FixedOp::Ssubu, a, b, b);
     assert_same!(rt; left.to_array(), [0x7fff_fffe, 0, 0, 0x7fff_ffff]);
     assert_same!(rt; flags.to_array(), [0, 0xffff_ffff, 0xffff_ffff, 0]);
-}
-
-#[test]
-fn a_chunk_of_words_is_rounded(rt: HostRuntime) {
     let a = u32x4::from_array([0x7, 0x8000_0005, 0xffff_ffff, 0x6]);
     let b = u32x4::from_array([0x4, 0x1, 0x1, 0x3]);
     let (means, flags) = fixed_u32(FixedOp::Aaddu(RoundingMode::NearestEven), a, b, b);
@@ -97,7 +78,7 @@ fn a_chunk_of_words_is_rounded(rt: HostRuntime) {
 }
 
 #[test]
-fn a_chunk_of_mask_bytes(rt: HostRuntime) {
+fn bytes_are_combined_and_chosen(rt: HostRuntime) {
     let a = u8x16::from_array([
         0, 0xff, 0x0f, 0xf0, 0x55, 0xaa, 0x33, 0xcc, 1, 0x80, 0x7e, 0x81, 0x12, 0x34, 0x56, 0x78,
     ]);
@@ -109,24 +90,7 @@ fn a_chunk_of_mask_bytes(rt: HostRuntime) {
         0, 0xff, 0xcf, 0xf3, 0xf5, 0xfa, 0xbb, 0xee, 0xff, 0xfe, 0xff, 0xe7, 0x13, 0x37, 0x57, 0x7f,
     ];
     assert_same!(rt; or_not, expected);
-}
-
-#[test]
-fn bytes_are_chosen_lane_by_lane(rt: HostRuntime) {
     let active = u8x16::from_array([1, 0, 0xff, 0, 2, 0, 0, 0, 0, 0, 0, 0, 0, 0, 0, 0x80]);
     let lanes = choose(active, u8x16::splat(5), u8x16::splat(9)).to_array();
     assert_same!(rt; lanes, [5, 9, 5, 9, 5, 9, 9, 9, 9, 9, 9, 9, 9, 9, 9, 5]);
-}
-
-#[test]
-fn a_group_is_lent_to_be_written(rt: HostRuntime) -> Result<(), Fail> {
-    let mut registers = VregFile::<16>::new();
-    registers
-        .group_mut(Reg::new(4), 2)
-        .copy_from_slice(&[7; 32]);
-    assert_same!(rt; registers.group(Reg::new(4), 2), [7; 32].as_slice());
-    assert_same!(rt; registers.byte(Reg::new(3), 15), 0);
-    assert_same!(rt; registers.byte(Reg::new(5), 15), 7);
-    assert_same!(rt; registers.byte(Reg::new(6), 0), 0);
-    Ok(())
 }

@@ -16,14 +16,40 @@ fn sum(rt: &impl Abort, one: &Form<8>, other: &Form<8>) -> Form<8> {
     one.add(other).expect(rt, "two terms have room")
 }
 
-fn atom(lo: u32, hi: u32, split: Option<Split>) -> Atom {
-    Atom {
-        range: Range { lo, hi },
-        split,
-    }
-}
-
 const MINUS_ONE: u32 = 0xffff_ffff;
+
+const ZERO: Atom = Atom {
+    range: Range { lo: 0, hi: 0 },
+    split: None,
+};
+
+/// Atom 1 is the sum of atoms 2 and 3.
+const SUM: [Atom; 4] = [
+    ZERO,
+    Atom {
+        range: Range { lo: 0, hi: 100 },
+        split: Some(Split {
+            first: 2,
+            second: 3,
+        }),
+    },
+    Atom {
+        range: Range { lo: 0, hi: 16 },
+        split: None,
+    },
+    Atom {
+        range: Range { lo: 0, hi: 90 },
+        split: None,
+    },
+];
+
+const COUNT: [Atom; 2] = [
+    ZERO,
+    Atom {
+        range: Range { lo: 1, hi: 1024 },
+        split: None,
+    },
+];
 
 #[test]
 fn adds_and_replaces(rt: HostRuntime) {
@@ -43,17 +69,7 @@ fn adds_and_replaces(rt: HostRuntime) {
 
 #[test]
 fn finds_ranges(rt: HostRuntime) {
-    // Atom 1 is the sum of atoms 2 and 3.
-    let parts = Some(Split {
-        first: 2,
-        second: 3,
-    });
-    let list = [
-        atom(0, 0, None),
-        atom(0, 100, parts),
-        atom(0, 16, None),
-        atom(0, 90, None),
-    ];
+    let list = SUM;
     let atoms = Atoms {
         atoms: &list,
         first: None,
@@ -78,7 +94,7 @@ fn finds_ranges(rt: HostRuntime) {
 
 #[test]
 fn compares_by_differences(rt: HostRuntime) {
-    let list = [atom(0, 0, None), atom(1, 1024, None)];
+    let list = COUNT;
     let atoms = Atoms {
         atoms: &list,
         first: None,

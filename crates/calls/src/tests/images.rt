@@ -2,8 +2,6 @@
 use crate::tests::assertions::{assert_same, found, given};
 use crate::tests::fixture::{elf_header, file_of};
 use elf_image::*;
-use std::alloc::Global;
-use std::process::Abort;
 
 /// What stands behind the ELF header of an executable as the standard lays it out: three program
 /// headers, code, data, a note.
@@ -30,26 +28,13 @@ const BEHIND: [u8; 148] = [
     1, 2, 3, 4,
 ];
 
-/// That executable, whose header says that it has so many program headers.
-fn file(rt: impl Abort + Copy, alloc: Global, headers: u8) -> Vec<u8> {
-    file_of(rt, alloc, elf_header(0x1_0000, 52, headers), &BEHIND)
-}
-
-fn image(rt: impl Abort + Copy, alloc: Global) -> Image {
-    let file = file(rt, alloc, 3);
-    given!(rt; read(alloc, &file))
-}
-
 #[test]
 fn reads_a_file(rt: HostRuntime) {
-    let image = image(rt, rt.alloc());
+    let file = file_of(rt, rt.alloc(), elf_header(0x1_0000, 52, 3), &BEHIND);
+    let image = given!(rt; read(rt.alloc(), &file));
     assert_same!(rt; image.entry(), 0x10000);
     assert_same!(rt; image.segments().len(), 2);
-    assert_data(rt, found!(rt; image.segments().get(1)));
-}
-
-/// The segment of data.
-fn assert_data(rt: impl Abort + Copy, data: &Segment) {
+    let data = found!(rt; image.segments().get(1));
     assert_same!(rt; data.address(), 0x20000);
     assert_same!(rt; data.memory_size(), 16);
     assert_same!(rt; data.bytes(), [0xde, 0xad, 0xbe, 0xef].as_slice());
@@ -60,52 +45,39 @@ fn assert_data(rt: impl Abort + Copy, data: &Segment) {
     };
     assert_same!(rt; data.rights(), rights);
     assert_same!(rt; data.contains(0x2000f), true);
-}
-
-#[test]
-fn finds_code_and_the_certificate(rt: HostRuntime) {
-    let image = image(rt, rt.alloc());
     assert_same!(rt; image.segment_at(0x10017), Some(0));
     assert_same!(rt; image.segment_at(0x10018), None);
-    assert_code(rt, &image);
+    // vsetvli, ecall, a word that passes the end of the code, and data.
+    for (address, word) in [
+        (0x10000, Some(0x0c06_72d7)),
+        (0x10014, Some(0x0000_0073)),
+        (0x10015, None),
+        (0x20000, None),
+    ] {
+        assert_same!(rt; image.code_at(address), word);
+    }
     assert_same!(rt; found!(rt; image.certificate()), [1, 2, 3, 4].as_slice());
 }
 
-/// vsetvli, ecall, a word that passes the end of the code, and data.
-fn assert_code(rt: impl Abort + Copy, image: &Image) {
-    assert_same!(rt; image.code_at(0x10000), Some(0x0c06_72d7));
-    assert_same!(rt; image.code_at(0x10014), Some(0x0000_0073));
-    assert_same!(rt; image.code_at(0x10015), None);
-    assert_same!(rt; image.code_at(0x20000), None);
-}
-
 /// The file of another machine, with a faulty table besides.
-fn faulty(rt: impl Abort + Copy, alloc: Global) -> Vec<u8> {
-    let mut file = file(rt, alloc, 0);
-    *found!(rt; file.get_mut(18)) = 62;
-    file
-}
-
 #[test]
 fn tells_why_a_file_is_refused(rt: HostRuntime) {
-    let file = faulty(rt, rt.alloc());
+    let mut file = file_of(rt, rt.alloc(), elf_header(0x1_0000, 52, 0), &BEHIND);
+    *found!(rt; file.get_mut(18)) = 62;
     let error = found!(rt; read(rt.alloc(), &file).err());
     assert_same!(rt; error, ElfError::BadMachine);
     let text = given!(rt; format!(in rt.alloc(); "{error}"));
     assert_same!(rt; text.as_str(), "the file is not for RISC-V");
 }
 
-/// The header of the data among them: a program header has 32 bytes.
-fn data_header() -> ProgramHeader {
-    program_header_at(32, &BEHIND)
-}
-
+/// The header of the data is the second: a program header has 32 bytes.
 #[test]
-fn reads_the_numbers_of_headers(rt: HostRuntime) {
+fn reads_headers_and_writes_numbers(rt: HostRuntime) {
     let header = elf_header(0x1_0000, 52, 3);
     assert_same!(rt; half_at(18, &header), 243);
     assert_same!(rt; word_at(24, &header), 0x1_0000);
-    let data = ProgramHeader {
+    let data = program_header_at(32, &BEHIND);
+    let expected = ProgramHeader {
         p_type: 1,
         p_offset: 172,
         p_vaddr: 0x2_0000,
@@ -113,29 +85,6 @@ fn reads_the_numbers_of_headers(rt: HostRuntime) {
         p_memsz: 16,
         p_flags: 6,
     };
-    assert_same!(rt; data_header(), data);
-}
-
-/// Where the program header with number 1 begins.
-fn second_offset(file: &[u8]) -> Option<usize> {
-    if has_table(file) && 1 < half_at(E_PHNUM, file) {
-        Some(header_offset(1, file))
-    } else {
-        None
-    }
-}
-
-#[test]
-fn finds_the_table_of_headers(rt: HostRuntime) {
-    let file = file(rt, rt.alloc(), 3);
-    assert_same!(rt; is_too_short(&file), false);
-    assert_same!(rt; second_offset(&file), Some(84));
-    assert_same!(rt; is_too_short(&[0x7f, 0x45, 0x4c, 0x46]), true);
-}
-
-#[test]
-fn tests_program_headers(rt: HostRuntime) {
-    let data = data_header();
     assert_same!(rt; data.is_segment(), true);
     assert_same!(rt; data.is_dynamic(), false);
     assert_same!(rt; data.is_out_of_file(176), false);
@@ -143,12 +92,21 @@ fn tests_program_headers(rt: HostRuntime) {
     assert_same!(rt; data.is_out_of_place(), false);
     assert_same!(rt; data.overlaps(&program_header_at(0, &BEHIND)), false);
     assert_same!(rt; data.is_write_and_execute(), false);
-}
-
-#[test]
-fn writes_the_bytes_of_numbers(rt: HostRuntime) {
+    assert_same!(rt; data, expected);
     let mut out = Vec::new(rt.alloc());
     given!(rt; put_half(&mut out, 0x0102));
     given!(rt; put_word(&mut out, 0x0304_0506));
     assert_same!(rt; out.as_slice(), [2, 1, 6, 5, 4, 3].as_slice());
+}
+
+/// The program header with number 1 is there, and has a place.
+#[test]
+fn finds_the_table_of_headers(rt: HostRuntime) {
+    let file = file_of(rt, rt.alloc(), elf_header(0x1_0000, 52, 3), &BEHIND);
+    let file = file.as_slice();
+    assert_same!(rt; is_too_short(file), false);
+    assert!(rt; has_table(file));
+    assert!(rt; 1 < half_at(E_PHNUM, file));
+    assert_same!(rt; header_offset(1, file), 84);
+    assert_same!(rt; is_too_short(&[0x7f, 0x45, 0x4c, 0x46]), true);
 }

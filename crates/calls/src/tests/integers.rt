@@ -5,17 +5,13 @@ use lane_int::{compare, compute, cut, extend};
 use rv_decode::{CompareOp, IntOp};
 
 #[test]
-fn bytes_and_their_mask(rt: HostRuntime) {
+fn elements_are_computed_compared_and_resized(rt: HostRuntime) {
     let mut values: [u8; 4] = [0x80, 0x7f, 0xff, 0x07];
     compute(IntOp::Add, &mut values, &[0x80, 0x01, 0x01, 0x03]); // vadd.vv at SEW 8
     assert_same!(rt; values, [0x00, 0x80, 0x00, 0x0a]);
     let mut bits = [false; 4];
     compare(CompareOp::Lt, &values, &[0; 4], &mut bits); // vmslt.vx with x0
     assert_same!(rt; bits, [false, true, false, false]);
-}
-
-#[test]
-fn resizes_elements(rt: HostRuntime) {
     let values = [0x7fu8, 0x80, 0xff];
     let mut wide = [0u16; 3];
     extend(true, values.as_slice(), wide.as_mut_slice());

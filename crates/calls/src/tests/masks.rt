@@ -10,7 +10,7 @@ use rv_decode::{FirstOp, FoldOp, LogicOp};
 const MASK: [bool; 6] = [false, true, false, true, false, false];
 
 #[test]
-fn counts_and_finds(rt: HostRuntime) {
+fn counts_finds_and_folds(rt: HostRuntime) {
     assert_same!(rt; count(MASK.as_slice()), 2);
     assert_same!(rt; first(MASK.as_slice()), Some(1));
     assert_same!(rt; first([false; 3].as_slice()), None);
@@ -19,29 +19,6 @@ fn counts_and_finds(rt: HostRuntime) {
     assert_same!(rt; out, [0, 0, 1, 1, 2, 2]);
     index(out.as_mut_slice());
     assert_same!(rt; out, [0, 1, 2, 3, 4, 5]);
-}
-
-#[test]
-fn sets_bits_around_the_first(rt: HostRuntime) {
-    let mut mask = MASK;
-    set_first(FirstOp::Before, mask.as_mut_slice());
-    assert_same!(rt; mask, [true, false, false, false, false, false]);
-    let mut mask = MASK;
-    set_first(FirstOp::Including, mask.as_mut_slice());
-    assert_same!(rt; mask, [true, true, false, false, false, false]);
-}
-
-#[test]
-fn sets_the_first_bit_alone(rt: HostRuntime) {
-    let mut mask = MASK;
-    set_first(FirstOp::Only, mask.as_mut_slice());
-    assert_same!(rt; mask, [false, true, false, false, false, false]);
-    combine(LogicOp::Orn, mask.as_mut_slice(), MASK.as_slice());
-    assert_same!(rt; mask, [true, true, true, false, true, true]);
-}
-
-#[test]
-fn folds_active_elements(rt: HostRuntime) {
     let values = [1u8, 2, 0x80, 0xff, 5, 6];
     assert_same!(rt;
         fold(FoldOp::Sum, 10u8, values.as_slice(), MASK.as_slice()),
@@ -62,39 +39,42 @@ fn folds_active_elements(rt: HostRuntime) {
 }
 
 #[test]
-fn moves_elements(rt: HostRuntime) {
+fn sets_bits_around_the_first(rt: HostRuntime) {
+    for (op, expected) in [
+        (FirstOp::Before, [true, false, false, false, false, false]),
+        (FirstOp::Including, [true, true, false, false, false, false]),
+        (FirstOp::Only, [false, true, false, false, false, false]),
+    ] {
+        let mut mask = MASK;
+        set_first(op, mask.as_mut_slice());
+        assert_same!(rt; mask, expected);
+    }
+    let mut mask = [false, true, false, false, false, false];
+    combine(LogicOp::Orn, mask.as_mut_slice(), MASK.as_slice());
+    assert_same!(rt; mask, [true, true, true, false, true, true]);
+}
+
+#[test]
+fn moves_and_packs_elements(rt: HostRuntime) {
     let source = [1u8, 2, 3, 4];
     let mut values = [9u8; 4];
     slide_up(1, source.as_slice(), values.as_mut_slice());
     assert_same!(rt; values, [9, 1, 2, 3]);
     slide_down(3, source.as_slice(), 0, values.as_mut_slice());
     assert_same!(rt; values, [4, 0, 0, 0]);
-}
-
-#[test]
-fn gathers_elements(rt: HostRuntime) {
     let mut values = [9u8; 4];
     gather(
-        [1u8, 2, 3, 4].as_slice(),
+        source.as_slice(),
         [3u32, 4, 0xffff_ffff, 0].as_slice(),
         0,
         values.as_mut_slice(),
     );
     assert_same!(rt; values, [4, 0, 0, 1]);
-}
-
-#[test]
-fn moves_elements_by_one(rt: HostRuntime) {
     let mut values = [1u8, 2, 3, 4];
     slide_one_up(7, values.as_mut_slice());
     assert_same!(rt; values, [7, 1, 2, 3]);
     slide_one_down(8, values.as_mut_slice());
     assert_same!(rt; values, [1, 2, 3, 8]);
-}
-
-#[test]
-fn packs_elements(rt: HostRuntime) {
-    let mut values = [1u8, 2, 3, 8];
     let packed = compress([false, true, false, true].as_slice(), values.as_mut_slice());
     assert_same!(rt; packed, 2);
     assert_same!(rt; &values[..2], [2u8, 8].as_slice());

@@ -17,36 +17,30 @@ const FILE: [u8; 92] = [
 ];
 
 /// A buffer of two bytes that may be read, a scalar from 1 to 9, and a buffer of three that may be written.
-fn parameters() -> Option<Parameters> {
-    Parameters::new([
-        Param::Buffer {
-            mode: Mode::Read,
-            size: 2,
-        },
-        Param::Scalar { lo: 1, hi: 9 },
-        Param::Buffer {
-            mode: Mode::ReadWrite,
-            size: 3,
-        },
-        Param::None,
-        Param::None,
-        Param::None,
-        Param::None,
-        Param::None,
-    ])
-}
-
-fn bytes(rt: impl Abort + Copy, alloc: Global, items: &[u8]) -> Arg {
-    Arg::Buffer(Bytes::new(given!(rt; Vec::from_slice(alloc, items))))
-}
+const PARAMETERS: [Param; 8] = [
+    Param::Buffer {
+        mode: Mode::Read,
+        size: 2,
+    },
+    Param::Scalar { lo: 1, hi: 9 },
+    Param::Buffer {
+        mode: Mode::ReadWrite,
+        size: 3,
+    },
+    Param::None,
+    Param::None,
+    Param::None,
+    Param::None,
+    Param::None,
+];
 
 fn args(rt: impl Abort + Copy, alloc: Global, scalar: u32) -> Args {
-    let read = bytes(rt, alloc, &[0x21, 0x22]);
-    let written = bytes(rt, alloc, &[0x31, 0x32, 0x33]);
+    let read = given!(rt; Vec::from_slice(alloc, &[0x21, 0x22]));
+    let written = given!(rt; Vec::from_slice(alloc, &[0x31, 0x32, 0x33]));
     let mut args = Args::none();
-    args.places[0] = read;
+    args.places[0] = Arg::Buffer(Bytes::new(read));
     args.places[1] = Arg::Scalar(scalar);
-    args.places[2] = written;
+    args.places[2] = Arg::Buffer(Bytes::new(written));
     args
 }
 
@@ -64,7 +58,7 @@ fn expect_args(rt: impl Abort + Copy, args: &Args, third: &[u8]) {
 /// The memory of a run, on this stack. Where memory is refused the arguments have come back as they were.
 fn regions_on(rt: impl Abort + Copy, alloc: Global, stack: Stack) -> Regions {
     let image: Image = given!(rt; elf_image::read(alloc, &FILE));
-    let parameters = found!(rt; parameters());
+    let parameters = found!(rt; Parameters::new(PARAMETERS));
     assert_same!(rt; parameters.address(2), Some(0x4000_2000));
     let args = args(rt, alloc, 5);
     if parameters.matches(&args).is_err() {
@@ -77,11 +71,6 @@ fn regions_on(rt: impl Abort + Copy, alloc: Global, stack: Stack) -> Regions {
             panic!(rt; "no memory")
         }
     }
-}
-
-/// The memory of a run, on a stack of its own.
-fn regions(rt: impl Abort + Copy, alloc: Global) -> Regions {
-    regions_on(rt, alloc, given!(rt; Stack::new(alloc)))
 }
 
 /// Asserts that each byte of the stack is 0.
@@ -98,18 +87,15 @@ fn expect_numbers(rt: impl Abort + Copy, regions: &Regions) {
     assert_same!(rt; regions.byte(0x2fff_ffff), Some(0));
 }
 
-fn expect_windows(rt: impl Abort + Copy, regions: &Regions) {
+#[test]
+fn runs_memory(rt: HostRuntime) {
+    let stack = given!(rt; Stack::new(rt.alloc()));
+    let mut regions = regions_on(rt, rt.alloc(), stack);
+    expect_numbers(rt, &regions);
     assert_same!(rt; regions.permits(Right::Write, 0x2fff_0000, 0x1_0000), true);
     assert_same!(rt; regions.window(0x1_0006, 2), Some([7, 8].as_slice()));
     assert_same!(rt; regions.window(0x1_0006, 3), None);
     assert_same!(rt; regions.has_window(0x1_0006, 2), false);
-}
-
-#[test]
-fn runs_memory(rt: HostRuntime) {
-    let mut regions = regions(rt, rt.alloc());
-    expect_numbers(rt, &regions);
-    expect_windows(rt, &regions);
     assert!(rt; regions.has_window(0x4000_2001, 2));
     regions.set_window(0x4000_2001, &[0x41, 0x42]);
     assert_same!(rt; regions.store(0x4000_2001, 1, 0xffff_ff77), true);
@@ -118,21 +104,17 @@ fn runs_memory(rt: HostRuntime) {
     expect_args(rt, &regions.into_args(), &[0x31, 0x77, 0x42]);
 }
 
-/// Writes to the stack, the last of them below the others.
-fn write_stack(rt: impl Abort + Copy, regions: &mut Regions) {
-    assert_same!(rt; regions.store(0x2fff_fffc, 4, 0xffff_ffff), true);
-    assert!(rt; regions.has_window(0x2fff_9000, 3));
-    regions.set_window(0x2fff_9000, &[1, 2, 3]);
-    assert_same!(rt; regions.store(0x2fff_8001, 2, 0xffff), true);
-    assert_same!(rt; regions.store(0x2fff_9004, 1, 0xff), true);
-}
-
-/// The second run meets a stack of zeros, and so does the third, where the second wrote its first byte.
+/// The second run meets a stack of zeros, and so does the third, where the second wrote its first byte. The first writes
+/// last below what it wrote before.
 #[test]
 fn uses_a_stack_again(rt: HostRuntime) {
     let alloc = rt.alloc();
-    let mut first = regions(rt, alloc);
-    write_stack(rt, &mut first);
+    let mut first = regions_on(rt, alloc, given!(rt; Stack::new(alloc)));
+    assert_same!(rt; first.store(0x2fff_fffc, 4, 0xffff_ffff), true);
+    assert!(rt; first.has_window(0x2fff_9000, 3));
+    first.set_window(0x2fff_9000, &[1, 2, 3]);
+    assert_same!(rt; first.store(0x2fff_8001, 2, 0xffff), true);
+    assert_same!(rt; first.store(0x2fff_9004, 1, 0xff), true);
     let (args, stack) = first.into_parts();
     expect_args(rt, &args, &[0x31, 0x32, 0x33]);
     let mut second = regions_on(rt, alloc, found!(rt; stack));
@@ -148,7 +130,7 @@ fn uses_a_stack_again(rt: HostRuntime) {
 #[test]
 fn tells_what_is_wrong(rt: HostRuntime) {
     let alloc = rt.alloc();
-    let parameters = found!(rt; parameters());
+    let parameters = found!(rt; Parameters::new(PARAMETERS));
     let error = parameters.matches(&args(rt, alloc, 10));
     assert_same!(rt; error, Err(ArgError::ScalarOutOfInterval(1)));
     let text = given!(rt; format!(in alloc; "{}", ArgError::WrongSize(7)));

@@ -10,90 +10,62 @@ use std::process::Abort;
 use vector_core::{VectorState, judge, step_known, step_vector};
 use vreg_groups::{Agnostic, Vconfig};
 
-/// A step by a word.
+/// A step by a word, which is judged before or by the step.
 fn step(
     vectors: &mut VectorState<16>,
     scalar: &mut Scalar,
     memory: &mut Regions,
     word: u32,
+    is_judged: bool,
 ) -> Result<(), Fault> {
-    match decode(word) {
-        Some(insn) => step_vector(vectors, scalar, word, insn, memory),
-        None => Err(Fault::Illegal(word)),
+    let Some(insn) = decode(word) else {
+        return Err(Fault::Illegal(word));
+    };
+    if is_judged {
+        let judged = judge(&vectors.config(), &insn);
+        step_known(vectors, scalar, word, &insn, judged, memory)
+    } else {
+        step_vector(vectors, scalar, word, insn, memory)
     }
 }
 
 #[test]
 fn bytes_are_raised_in_memory(rt: HostRuntime) {
-    let mut memory = memory(rt, rt.alloc());
-    let mut vectors = VectorState::<16>::new(Agnostic::Ones);
-    let mut scalar = Scalar::new(0x1000);
-    scalar.set_reg(Reg::new(10), 0x2000);
-    // vsetivli x7,3,e8,m1,ta,ma; vle8.v v8,(x10); vadd.vi v8,v8,2; vse8.v v8,(x10)
-    for word in [0xcc01_f3d7, 0x0205_0407, 0x0281_3457, 0x0205_0427] {
-        given!(rt; step(&mut vectors, &mut scalar, &mut memory, word));
+    for is_judged in [false, true] {
+        let mut memory = memory(rt, rt.alloc());
+        let mut vectors = VectorState::<16>::new(Agnostic::Ones);
+        let mut scalar = Scalar::new(0x1000);
+        scalar.set_reg(Reg::new(10), 0x2000);
+        // vadd.vi v8,v8,2 has no vector type yet.
+        let refused = step(
+            &mut vectors,
+            &mut scalar,
+            &mut memory,
+            0x0281_3457,
+            is_judged,
+        );
+        assert_same!(rt; refused, Err(Fault::Illegal(0x0281_3457)));
+        // vsetivli x7,3,e8,m1,ta,ma; vle8.v v8,(x10); vadd.vi v8,v8,2; vse8.v v8,(x10)
+        for word in [0xcc01_f3d7, 0x0205_0407, 0x0281_3457, 0x0205_0427] {
+            given!(rt; step(&mut vectors, &mut scalar, &mut memory, word, is_judged));
+        }
+        assert_same!(rt; vectors.config(), Vconfig { vtype: 0xc0, vl: 3 });
+        assert_same!(rt; memory.load(0x2000, 4), Some(0xff00_0403));
+        assert_same!(rt; vectors.byte(Reg::new(8), 3), 0xff);
+        assert_same!(rt; scalar.pc(), 0x1010);
+        // vse8.v v8,(x10), of which two bytes may be written.
+        scalar.set_reg(Reg::new(10), 0x200e);
+        let refused = step(
+            &mut vectors,
+            &mut scalar,
+            &mut memory,
+            0x0205_0427,
+            is_judged,
+        );
+        assert_same!(rt; refused, Err(Fault::StoreFault(0x2010)));
+        assert_same!(rt; memory.byte(0x200e), Some(0x0f));
+        assert_same!(rt; vectors.into_registers().byte(Reg::new(8), 0), 3);
     }
-    assert_same!(rt; vectors.config(), Vconfig { vtype: 0xc0, vl: 3 });
-    assert_same!(rt; memory.load(0x2000, 4), Some(0xff00_0403));
-    assert_same!(rt; vectors.byte(Reg::new(8), 3), 0xff);
-    assert_same!(rt; scalar.pc(), 0x1010);
-    assert_store_refused(rt, &mut vectors, &mut scalar, &mut memory);
-    assert_same!(rt; vectors.into_registers().byte(Reg::new(8), 0), 3);
-}
-
-/// A step by a word that was judged before.
-fn judged_step(
-    vectors: &mut VectorState<16>,
-    scalar: &mut Scalar,
-    memory: &mut Regions,
-    word: u32,
-) -> Result<(), Fault> {
-    let Some(insn) = decode(word) else {
-        return Err(Fault::Illegal(word));
-    };
-    let judged = judge(&vectors.config(), &insn);
-    step_known(vectors, scalar, word, &insn, judged, memory)
-}
-
-#[test]
-fn words_that_were_judged_are_stepped(rt: HostRuntime) {
-    let mut memory = memory(rt, rt.alloc());
-    let mut vectors = VectorState::<16>::new(Agnostic::Ones);
-    let mut scalar = Scalar::new(0x1000);
-    scalar.set_reg(Reg::new(10), 0x2000);
-    // vadd.vi v8,v8,2 has no vector type yet.
-    let refused = judged_step(&mut vectors, &mut scalar, &mut memory, 0x0281_3457);
-    assert_same!(rt; refused, Err(Fault::Illegal(0x0281_3457)));
-    // vsetivli x7,3,e8,m1,ta,ma; vle8.v v8,(x10); vadd.vi v8,v8,2; vse8.v v8,(x10)
-    for word in [0xcc01_f3d7, 0x0205_0407, 0x0281_3457, 0x0205_0427] {
-        given!(rt; judged_step(&mut vectors, &mut scalar, &mut memory, word));
-    }
-    assert_same!(rt; memory.load(0x2000, 4), Some(0xff00_0403));
-}
-
-/// vse8.v v8,(x10), of which two bytes may be written.
-fn assert_store_refused(
-    rt: impl Abort + Copy,
-    vectors: &mut VectorState<16>,
-    scalar: &mut Scalar,
-    memory: &mut Regions,
-) {
-    scalar.set_reg(Reg::new(10), 0x200e);
-    let refused = step(vectors, scalar, memory, 0x0205_0427);
-    assert_same!(rt; refused, Err(Fault::StoreFault(0x2010)));
-    assert_same!(rt; memory.byte(0x200e), Some(0x0f));
-}
-
-/// A step by a word that computes, and the first two bytes of v10 after it.
-fn computed(
-    vectors: &mut VectorState<16>,
-    scalar: &mut Scalar,
-    memory: &mut Regions,
-    word: u32,
-) -> Result<u32, Fault> {
-    step(vectors, scalar, memory, word)?;
-    let low = u32::from(vectors.byte(Reg::new(10), 0));
-    Ok(low + 0x100 * u32::from(vectors.byte(Reg::new(10), 1)))
 }
 
 /// A word, the first two bytes of v10 after it, and vxsat.
@@ -129,11 +101,13 @@ fn assert_steps(rt: impl Abort + Copy, memory: &mut Regions, vsetivli: u32, step
     scalar.set_reg(Reg::new(11), 0x8080);
     scalar.set_reg(Reg::new(12), 0xfe);
     for word in [vsetivli, 0x5e05_c457] { // vmv.v.x v8,x11
-        given!(rt; step(&mut vectors, &mut scalar, memory, word));
+        given!(rt; step(&mut vectors, &mut scalar, memory, word, false));
     }
     for (word, bytes, vxsat) in steps {
-        let came = computed(&mut vectors, &mut scalar, memory, *word);
-        assert_same!(rt; (came, scalar.vxsat()), (Ok(*bytes), *vxsat));
+        let came = step(&mut vectors, &mut scalar, memory, *word, false);
+        let low = u32::from(vectors.byte(Reg::new(10), 0));
+        let number = low + 0x100 * u32::from(vectors.byte(Reg::new(10), 1));
+        assert_same!(rt; (came, number, scalar.vxsat()), (Ok(()), *bytes, *vxsat));
     }
 }
 

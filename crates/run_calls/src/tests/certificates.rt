@@ -1,9 +1,7 @@
 //! How certificates are read, written and made. Which bytes spell none is tried by `conformance`, on the rows of `checks.txt`.
 use crate::tests::assertions::{assert_same, found, given};
 use crate::tests::kernels::bytes_of;
-use cert_note::{
-    Block, Certificate, Contents, OrderFact, RegisterFact, Version, Vlen, read, write,
-};
+use cert_note::{Block, Certificate, Contents, OrderFact, Version, Vlen, read, write};
 use region_mem::{Param, Parameters};
 use sample_kernels::{Kernel, RAISE, RAISE_IF};
 use std::alloc::Global;
@@ -16,17 +14,8 @@ const LOOP: [(usize, (u8, u32, u32, bool)); 3] = [
     (2, (11, 1, 1024, false)),
 ];
 
-/// Asserts that x10 is 0x40000000 - 4 * x11 + 4 * n in a fact, where n is parameter 1.
-fn expect_place(rt: impl Abort + Copy, fact: &RegisterFact) {
-    let sum = found!(rt; fact.equality.as_ref());
-    assert_same!(rt; (sum.constant, sum.terms.len()), (0x4000_0000, 2));
-    for (place, expected) in [(0, (11, 0xffff_fffc)), (1, (34, 4))] {
-        let term = found!(rt; sum.terms.as_slice().get(place));
-        assert_same!(rt; (term.atom, term.coefficient), expected);
-    }
-}
-
-/// Asserts that a block is that of the loop, with a budget of 1 + 8 * x11.
+/// Asserts that a block is that of the loop, with a budget of 1 + 8 * x11, and that x10 is 0x40000000 - 4 * x11 + 4 * n in its
+/// second fact, where n is parameter 1.
 fn expect_loop(rt: impl Abort + Copy, block: &Block) {
     let budget = block.budget;
     assert_same!(rt; (block.start, block.vtype), (0x1_0004, None));
@@ -39,7 +28,13 @@ fn expect_loop(rt: impl Abort + Copy, block: &Block) {
         let came = (fact.number, fact.low, fact.high, fact.equality.is_some());
         assert_same!(rt; came, expected);
     }
-    expect_place(rt, found!(rt; block.registers.as_slice().get(1)));
+    let place = found!(rt; block.registers.as_slice().get(1));
+    let sum = found!(rt; place.equality.as_ref());
+    assert_same!(rt; (sum.constant, sum.terms.len()), (0x4000_0000, 2));
+    for (place, expected) in [(0, (11, 0xffff_fffc)), (1, (34, 4))] {
+        let term = found!(rt; sum.terms.as_slice().get(place));
+        assert_same!(rt; (term.atom, term.coefficient), expected);
+    }
 }
 
 /// The kernel's certificate, of this version. Asserts that it is written as it was read, and how
@@ -79,18 +74,15 @@ fn reads_and_writes_certificates(rt: HostRuntime) {
 
 /// A certificate of no blocks.
 #[tactic(auto, unfolding(region_mem::specs::Parameter::parameters_of, region_mem::specs::Parameter::is_valid))]
-fn empty(alloc: Global) -> Certificate {
-    Certificate::new(Contents {
+#[test]
+fn writes_what_was_made(rt: HostRuntime) {
+    let empty = Certificate::new(Contents {
         version: Version::V1,
         vlen: Vlen::V256,
         parameters: Parameters::new([Param::None; 8]).unwrap(),
-        blocks: Vec::new(alloc),
-    })
-}
-
-#[test]
-fn writes_what_was_made(rt: HostRuntime) {
-    let bytes = given!(rt; write(rt.alloc(), &empty(rt.alloc())));
+        blocks: Vec::new(rt.alloc()),
+    });
+    let bytes = given!(rt; write(rt.alloc(), &empty));
     assert_same!(rt; bytes.len(), 104);
     assert_same!(rt; bytes.starts_with(&[1, 0, 2, 0]), true);
 }

@@ -3,28 +3,10 @@
 use crate::tests::assertions::assert_same;
 use crate::tests::kernels::accepted;
 use cert_note::Vlen;
-use sample_kernels::{Kernel, RAISE, RAISE_IF, SUM};
-use std::alloc::Global;
-use std::process::Abort;
+use sample_kernels::{RAISE, RAISE_IF, SUM};
 
-/// Asserts the bound of a kernel that is accepted for a length of vector registers, where these
-/// numbers are passed.
-fn assert_bound(
-    rt: impl Abort + Copy,
-    alloc: Global,
-    kernel: Kernel,
-    vlen: Vlen,
-    numbers: [u32; 8],
-    bound: u128,
-) {
-    let accepted = accepted(rt, alloc, kernel, vlen);
-    assert_same!(rt; accepted.bound(&numbers), bound);
-    assert_same!(rt; accepted.vlen(), vlen);
-    assert_same!(rt; accepted.image().entry(), 0x1_0000);
-    assert_same!(rt; accepted.certificate().contents().blocks.len(), kernel.blocks);
-}
-
-/// The sum of bytes, the loop over strips at each length, and the loop that branches.
+/// The sum of bytes, the loop over strips at each length, and the loop that branches, each with its bound where these numbers
+/// are passed.
 #[test]
 fn accepts_kernels(rt: HostRuntime) {
     let some = [7, 1024, 7, 7, 7, 7, 7, 7];
@@ -40,6 +22,10 @@ fn accepts_kernels(rt: HostRuntime) {
         (RAISE_IF, Vlen::V128, [0, 17, 1, 0, 0, 0, 0, 0], 141),
         (RAISE_IF, Vlen::V128, [0; 8], 5),
     ] {
-        assert_bound(rt, rt.alloc(), kernel, vlen, numbers, bound);
+        let accepted = accepted(rt, rt.alloc(), kernel, vlen);
+        assert_same!(rt; accepted.bound(&numbers), bound);
+        assert_same!(rt; accepted.vlen(), vlen);
+        assert_same!(rt; accepted.image().entry(), 0x1_0000);
+        assert_same!(rt; accepted.certificate().contents().blocks.len(), kernel.blocks);
     }
 }

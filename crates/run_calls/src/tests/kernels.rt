@@ -22,32 +22,13 @@ pub(crate) fn put(rt: impl Abort + Copy, bytes: &mut [u8], place: usize, others:
     }
 }
 
-/// The bytes that digits spell, with others at a place.
-pub(crate) fn changed(
-    rt: impl Abort + Copy,
-    alloc: Global,
-    digits: &str,
-    place: usize,
-    others: &[u8],
-) -> Vec<u8> {
-    let mut bytes = bytes_of(rt, alloc, digits);
-    put(rt, &mut bytes, place, others);
-    bytes
-}
-
-/// The bytes of words.
-fn code_of(rt: impl Abort + Copy, alloc: Global, words: &str) -> Vec<u8> {
+/// A file with these words at 0x10000, which is its entry.
+pub(crate) fn file_of(rt: impl Abort + Copy, alloc: Global, words: &str) -> Vec<u8> {
     let mut code = Vec::new(alloc);
     for word in words.split_whitespace() {
         let word = given!(rt; u32::from_str_radix(word, 16));
         given!(rt; code.extend_from_slice(&word.to_le_bytes()));
     }
-    code
-}
-
-/// A file with these words at 0x10000, which is its entry.
-pub(crate) fn file_of(rt: impl Abort + Copy, alloc: Global, words: &str) -> Vec<u8> {
-    let code = code_of(rt, alloc, words);
     let size = u32::try_from(code.len()).unwrap_or(0).to_le_bytes();
     let mut file = bytes_of(rt, alloc, HEADERS);
     given!(rt; file.extend_from_slice(&size));
@@ -75,7 +56,8 @@ pub(crate) fn parts_of(
         Vlen::V256 => 2,
         Vlen::V512 => 3,
     };
-    let bytes = changed(rt, alloc, kernel.certificate, 2, &[byte]);
+    let mut bytes = bytes_of(rt, alloc, kernel.certificate);
+    put(rt, &mut bytes, 2, &[byte]);
     let certificate = given!(rt; cert_note::read(alloc, &bytes));
     (image_of(rt, alloc, kernel.code), certificate)
 }

@@ -6,7 +6,6 @@ ghost use Rattle.std.specs.Prelude.{◌≡◌, ◌≤◌, length};
 use crate::tests::assertions::{assert_same, given};
 use crate::tests::kernels::accepted;
 use crate::tests::sessions::args;
-use block_checker::Accepted;
 use cert_note::Vlen;
 use monitor::{Flow, MonError, Monitor};
 use rv_listing::{Failed, Outlet, Over, Piece, Sink, Stream, print, put_all, put_listing};
@@ -182,12 +181,6 @@ fn assert_told(
     assert_same!(rt; out.into_inner().as_slice(), text.as_bytes());
 }
 
-/// A run of the loop over nine words.
-fn opened(rt: impl Abort + Copy, alloc: Global, accepted: &Accepted) -> Session<16> {
-    let args = args(rt, alloc, Some(4096), 9, None);
-    given!(rt; Session::<16>::open(alloc, accepted, args, Agnostic::Keep, 8194))
-}
-
 /// Asserts that the run stands at its end, with its breakpoint, where the texts had so much room,
 /// and that what was written is the beginning of the whole.
 fn assert_whole_run(
@@ -208,27 +201,21 @@ fn assert_whole_run(
     assert_told(rt, alloc, &mut monitor, "d 10004", "gone 00010004\n");
 }
 
-/// What the strips make of the texts, one behind the other.
-fn whole_text(rt: impl Abort + Copy, alloc: Global) -> Vec<u8> {
-    let mut whole = Vec::new(alloc);
-    for (_, text) in STRIPS {
-        given!(rt; whole.extend_from_slice(text.as_bytes()));
-    }
-    whole
-}
-
-/// Asserts the same of each room that is too small for the whole, and of one that is not.
-fn assert_each_room(rt: impl Abort + Copy, alloc: Global, accepted: &Accepted, whole: &[u8]) {
-    for room in 0..=whole.len() {
-        let mut session = opened(rt, alloc, accepted);
-        assert_whole_run(rt, alloc, &mut session, whole, room);
-    }
-}
-
+/// Runs of the loop over nine words: one for each room that is too small for the texts of the strips, one behind the other, and
+/// one for a room that is not.
 #[test]
 fn a_failure_cuts_the_text_alone(rt: HostRuntime) {
     let alloc = rt.alloc();
     let accepted = accepted(rt, alloc, RAISE, Vlen::V128);
-    let whole = whole_text(rt, alloc);
-    assert_each_room(rt, alloc, &accepted, whole.as_slice());
+    let mut whole = Vec::new(alloc);
+    for (_, text) in STRIPS {
+        given!(rt; whole.extend_from_slice(text.as_bytes()));
+    }
+    let whole = whole.as_slice();
+    for room in 0..=whole.len() {
+        let args = args(rt, alloc, Some(4096), 9, None);
+        let opened = Session::<16>::open(alloc, &accepted, args, Agnostic::Keep, 8194);
+        let mut session = given!(rt; opened);
+        assert_whole_run(rt, alloc, &mut session, whole, room);
+    }
 }

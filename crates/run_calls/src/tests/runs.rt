@@ -1,10 +1,10 @@
 //! What a run hands back where it does not start, and the texts of the reasons. What runs leave is tried by `conformance`, on
 //! the rows of `runs.txt`.
-use crate::tests::assertions::{assert_same, found, given};
+use crate::tests::assertions::{assert_same, found, given, opaque};
 use crate::tests::kernels::image_of;
 use region_mem::{Arg, Args, Bytes, Mode, Param, Parameters};
 use sample_kernels::ADD_BYTES;
-use sandbox_run::{OpenError, Outcome, try_run};
+use sandbox_run::{OpenError, try_run};
 use std::alloc::Global;
 use std::process::Abort;
 use vreg_groups::Agnostic;
@@ -63,42 +63,26 @@ pub(crate) fn byte_parameters() -> Option<Parameters> {
     ])
 }
 
-/// What comes of the kernel on these arguments.
-fn add_bytes(
-    rt: impl Abort + Copy,
-    alloc: Global,
-    args: Args,
-) -> Result<Outcome<16>, (OpenError, Args)> {
-    let image = image_of(rt, alloc, ADD_BYTES);
-    let parameters = found!(rt; byte_parameters());
-    try_run::<16>(alloc, &image, &parameters, args, Agnostic::Keep, 10)
-}
-
-/// Asserts why the kernel does not run on these arguments, and that they come back.
-fn assert_back(rt: impl Abort + Copy, alloc: Global, first: &[u8], number: u32, error: OpenError) {
-    let args = args(rt, alloc, first, &[1, 2, 3], number);
-    match add_bytes(rt, alloc, args) {
-        Ok(_) => panic!(rt; "it runs"),
-        Err((came, args)) => {
-            assert_same!(rt; came, error);
-            assert_same!(rt; is_buffer(&args.places[0], first), true);
-            assert_same!(rt; is_buffer(&args.places[1], &[1, 2, 3]), true);
-            assert_same!(rt; matches!(args.places[2], Arg::Scalar(came) if came == number), true);
-        }
-    }
-}
-
 /// A scalar above its interval, and no buffer where one is wanted.
 #[test]
 fn hands_arguments_back(rt: HostRuntime) {
-    assert_back(
-        rt,
-        rt.alloc(),
-        &[7, 8],
-        4,
-        OpenError::ScalarOutOfInterval(2),
-    );
-    assert_back(rt, rt.alloc(), &[], 9, OpenError::WrongKind(0));
+    let alloc = rt.alloc();
+    let image = image_of(rt, alloc, ADD_BYTES);
+    let parameters = found!(rt; byte_parameters());
+    for (first, number, error) in [
+        ([7, 8].as_slice(), 4, OpenError::ScalarOutOfInterval(2)),
+        ([].as_slice(), 9, OpenError::WrongKind(0)),
+    ] {
+        let args = args(rt, alloc, first, &[1, 2, 3], number);
+        let ran = try_run::<16>(alloc, &image, &parameters, args, Agnostic::Keep, 10);
+        let Err((came, args)) = opaque(ran) else {
+            panic!(rt; "it runs");
+        };
+        assert_same!(rt; came, error);
+        assert_same!(rt; is_buffer(&args.places[0], first), true);
+        assert_same!(rt; is_buffer(&args.places[1], &[1, 2, 3]), true);
+        assert_same!(rt; matches!(args.places[2], Arg::Scalar(came) if came == number), true);
+    }
 }
 
 #[test]

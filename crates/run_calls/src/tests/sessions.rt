@@ -43,27 +43,15 @@ pub(crate) fn args(
     }
 }
 
-/// The first word of the code, the last byte of the buffer, and the last register.
-fn assert_shown(rt: impl Abort + Copy, session: &Session<16>) {
+/// The first word of the code, the last byte of the buffer, and the last register, and then each step of a run over one byte:
+/// how many have been made, and where the run is then.
+fn assert_steps(rt: impl Abort + Copy, session: &mut Session<16>) {
     assert_same!(rt; session.is_ended(), false);
     assert_same!(rt; session.fetch(0x1_0000), Some(0x0005_8c63));
     assert_same!(rt; session.fetch(0x4000_0000), None);
     assert_same!(rt; session.peek(0x4000_03ff), Some(3));
     assert_same!(rt; session.peek(0x4000_0400), None);
     assert_same!(rt; session.vector(Reg::new(31)), [0; 16].as_slice());
-}
-
-/// Asserts that there is a next step, and how many have been made and where the run is then.
-fn assert_step(rt: impl Abort + Copy, session: &mut Session<16>, steps: u64, pc: u32) {
-    assert_same!(rt; session.step(), Some(()));
-    assert_same!(rt; session.steps(), steps);
-    assert_same!(rt; session.registers().pc, pc);
-    assert_same!(rt; session.pc(), pc);
-    session.stands();
-}
-
-/// Each step of a run over one byte.
-fn assert_steps(rt: impl Abort + Copy, session: &mut Session<16>) {
     for (steps, pc) in [
         (1, 0x1_0004),
         (2, 0x1_0008),
@@ -73,7 +61,10 @@ fn assert_steps(rt: impl Abort + Copy, session: &mut Session<16>) {
         (6, 0x1_0018),
         (7, 0xffff_fff0),
     ] {
-        assert_step(rt, session, steps, pc);
+        assert_same!(rt; session.step(), Some(()));
+        assert_same!(rt; (session.steps(), session.pc()), (steps, pc));
+        assert_same!(rt; session.registers().pc, pc);
+        session.stands();
     }
     assert_same!(rt; session.is_ended(), true);
     assert_same!(rt; session.step(), None);
@@ -88,7 +79,6 @@ fn shows_each_step(rt: HostRuntime) {
     let args = args(rt, alloc, Some(1024), 1, None);
     let opened = Session::<16>::open(alloc, &accepted, args, Agnostic::Ones, 7);
     let mut session = given!(rt; opened);
-    assert_shown(rt, &session);
     assert_steps(rt, &mut session);
     assert_same!(rt; matches!(&session.close().places[1], Arg::Scalar(1)), true);
 }

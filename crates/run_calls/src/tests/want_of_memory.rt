@@ -98,13 +98,6 @@ pub(crate) fn until_served<F: Fn(Heap<'_>, u64) -> bool>(
     panic!(rt; "memory is never enough")
 }
 
-/// Asserts that the fault of a file is told before any memory is asked for.
-fn expect_unread(rt: impl Abort + Copy, heap: Heap<'_>, file: &[u8]) {
-    let refused = elf_image::read(heap, file).err();
-    assert_same!(rt; refused, Some(ElfError::BadFlags));
-    assert_same!(rt; heap.has_refused(), false);
-}
-
 /// Asserts that the file is read with this certificate, or that memory is wanting, and tells
 /// whether it is read.
 fn is_image_read(
@@ -123,20 +116,18 @@ fn is_image_read(
     true
 }
 
-/// A file with wrong flags, whichever allocation would be refused.
-#[test]
-fn reading_no_image(rt: HostRuntime) {
-    let mut bad = file(rt, rt.alloc());
-    put(rt, &mut bad, 36, &[1]);
-    for after in 0..MANY {
-        expect_unread(rt, &Refusing::new(rt.alloc(), after), &bad);
-    }
-}
-
-/// A list of segments, the bytes of two, and those of the certificate.
+/// A list of segments, the bytes of two, and those of the certificate. Of a file with wrong flags the fault is told before any
+/// memory is asked for, whichever allocation would be refused.
 #[test]
 fn reading_an_image(rt: HostRuntime) {
     let alloc = rt.alloc();
+    let mut bad = file(rt, alloc);
+    put(rt, &mut bad, 36, &[1]);
+    for after in 0..MANY {
+        let heap = Refusing::new(alloc, after);
+        assert_same!(rt; elf_image::read(&heap, &bad).err(), Some(ElfError::BadFlags));
+        assert_same!(rt; heap.has_refused(), false);
+    }
     let file = file(rt, alloc);
     let certificate = certificate(rt, alloc);
     until_served(rt, alloc, |heap, after| {
@@ -144,23 +135,8 @@ fn reading_an_image(rt: HostRuntime) {
     });
 }
 
-/// Asserts that a file is given no certificate, for a reason that is told before any memory is
-/// asked for.
-fn expect_unattached(rt: impl Abort + Copy, heap: Heap<'_>, file: &[u8], fault: ElfError) {
-    let refused = attach(heap, file, b"any").err();
-    assert_same!(rt; refused, Some(fault));
-    assert_same!(rt; heap.has_refused(), false);
-}
-
-/// Asserts that the file is an image of one segment with this certificate.
-fn assert_attached(rt: impl Abort + Copy, alloc: Global, file: &[u8], certificate: &[u8]) {
-    let image = given!(rt; elf_image::read(alloc, file));
-    assert_same!(rt; image.segments().len(), 1);
-    assert_same!(rt; image.certificate(), Some(certificate));
-}
-
 /// Asserts that the file of the sum is given the certificate, or that memory is wanting and the
-/// file as it was, and tells whether it is given it.
+/// file as it was, and tells whether it is given it. It is then an image of one segment.
 fn is_attached(
     rt: impl Abort + Copy,
     alloc: Global,
@@ -174,29 +150,31 @@ fn is_attached(
         assert_same!(rt; bare, file_of(rt, alloc, SUM.code).as_slice());
         return false;
     };
-    assert_attached(rt, alloc, attached.as_slice(), certificate);
+    let image = given!(rt; elf_image::read(alloc, &attached));
+    assert_same!(rt; image.segments().len(), 1);
+    assert_same!(rt; image.certificate(), Some(certificate));
     true
 }
 
-/// Files that are given no certificate, whichever allocation would be refused.
+/// The bytes of the file that is written. The one that is read stays as it is. Of files that are given no certificate the
+/// reason is told before any memory is asked for, whichever allocation would be refused.
 #[test]
-fn attaching_nothing(rt: HostRuntime) {
+fn attaching(rt: HostRuntime) {
     let alloc = rt.alloc();
     let certified = file(rt, alloc);
     let mut large = file_of(rt, alloc, SUM.code);
     given!(rt; large.resize(4 << 20, 0));
     for after in 0..MANY {
         let heap = Refusing::new(alloc, after);
-        expect_unattached(rt, &heap, b"\x7fELF", ElfError::TooShort);
-        expect_unattached(rt, &heap, &large, ElfError::TooLarge);
-        expect_unattached(rt, &heap, &certified, ElfError::CertificateThere);
+        for (file, fault) in [
+            (b"\x7fELF".as_slice(), ElfError::TooShort),
+            (large.as_slice(), ElfError::TooLarge),
+            (certified.as_slice(), ElfError::CertificateThere),
+        ] {
+            assert_same!(rt; attach(&heap, file, b"any").err(), Some(fault));
+            assert_same!(rt; heap.has_refused(), false);
+        }
     }
-}
-
-/// The bytes of the file that is written. The one that is read stays as it is.
-#[test]
-fn attaching(rt: HostRuntime) {
-    let alloc = rt.alloc();
     let bare = file_of(rt, alloc, SUM.code);
     let certificate = certificate(rt, alloc);
     until_served(rt, alloc, |heap, after| {
@@ -270,17 +248,6 @@ fn writing_a_certificate(rt: HostRuntime) {
     });
 }
 
-/// These parameters, of which the first is a buffer of one byte less than the loop of `RAISE`
-/// needs.
-fn too_short(parameters: &Parameters) -> Option<Parameters> {
-    let mut params = parameters.to_array();
-    params[0] = Param::Buffer {
-        mode: Mode::ReadWrite,
-        size: 63,
-    };
-    Parameters::new(params)
-}
-
 /// Asserts that no certificate is made for parameters that are too short: the load's fault, which
 /// is told before any memory is asked for.
 fn expect_unmade(rt: impl Abort + Copy, heap: Heap<'_>, image: &Image, short: &Parameters) {
@@ -308,7 +275,7 @@ fn is_made(
     true
 }
 
-/// The list of blocks.
+/// The list of blocks. The other parameters have a first buffer of one byte less than the loop of `RAISE` needs.
 #[test]
 fn making_a_certificate(rt: HostRuntime) {
     let alloc = rt.alloc();
@@ -318,7 +285,12 @@ fn making_a_certificate(rt: HostRuntime) {
     let parameters = given!(rt; cert_note::read(alloc, by_hand))
         .contents()
         .parameters;
-    let short = found!(rt; too_short(&parameters));
+    let mut params = parameters.to_array();
+    params[0] = Param::Buffer {
+        mode: Mode::ReadWrite,
+        size: 63,
+    };
+    let short = found!(rt; Parameters::new(params));
     until_served(rt, alloc, |heap, after| {
         expect_unmade(rt, heap, &image, &short);
         is_made(rt, alloc, heap, after, &image, &parameters, by_hand)

@@ -16,16 +16,6 @@ use sample_kernels::{Kernel, STORE, SUM};
 use std::alloc::Global;
 use std::process::Abort;
 
-/// Takes the word at an address.
-fn take(rt: impl Abort + Copy, image: &Image, state: &mut Abstract<Heap<'_>>, pc: u32) {
-    let word = found!(rt; image.code_at(pc));
-    let insn = found!(rt; decode(word));
-    if state.words() >= MOST_WORDS {
-        panic!(rt; "too many words");
-    }
-    given!(rt; state.after(pc, &insn));
-}
-
 /// Takes the words from `start` on, and asserts that both ways out of the block are known.
 fn expect_words(
     rt: impl Abort + Copy,
@@ -36,7 +26,11 @@ fn expect_words(
 ) {
     let mut pc = start;
     for _word in 0..words {
-        take(rt, image, state, pc);
+        let insn = found!(rt; decode(found!(rt; image.code_at(pc))));
+        if state.words() >= MOST_WORDS {
+            panic!(rt; "too many words");
+        }
+        given!(rt; state.after(pc, &insn));
         pc = pc.wrapping_add(4);
     }
     assert_same!(rt; state.words(), words);
@@ -261,13 +255,6 @@ fn checking(rt: HostRuntime) {
     assert_same!(rt; refused, accepted);
 }
 
-/// The file of the sum whose entry is its third word, where no block begins.
-fn moved_entry(rt: impl Abort + Copy, alloc: Global) -> Vec<u8> {
-    let mut file = file_of(rt, alloc, SUM.code);
-    put(rt, &mut file, 24, &[8]);
-    file
-}
-
 /// Asserts that the check tells this fault, and gives the certificate back.
 fn expect_fault(
     rt: impl Abort + Copy,
@@ -286,14 +273,15 @@ fn expect_fault(
     }
 }
 
-/// Faults that are told before any memory is asked for.
+/// Faults that are told before any memory is asked for: another length, and an entry at the third word, where no block begins.
 #[test]
 fn checking_no_block(rt: HostRuntime) {
     let alloc = rt.alloc();
     let heap = Refusing::new(alloc, 0);
     let kernel = parts_of(rt, alloc, SUM, Vlen::V128);
     let certificate = expect_fault(rt, &heap, kernel, Vlen::V256, CheckError::WrongVlen);
-    let file = moved_entry(rt, alloc);
+    let mut file = file_of(rt, alloc, SUM.code);
+    put(rt, &mut file, 24, &[8]);
     let elsewhere = given!(rt; elf_image::read(alloc, &file));
     let kernel = (elsewhere, certificate);
     expect_fault(rt, &heap, kernel, Vlen::V128, CheckError::NoEntryBlock);

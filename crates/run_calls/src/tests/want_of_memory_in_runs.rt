@@ -1,7 +1,7 @@
 //! Runs and sessions of which each allocation fails in turn: the answer is want of memory there,
 //! and the arguments come back as they were.
 use crate::refusing::Refusing;
-use crate::tests::assertions::{assert_same, found, given};
+use crate::tests::assertions::{assert_same, found, given, opaque};
 use crate::tests::kernels::{bytes_of, put};
 use crate::tests::want_of_memory::{Heap, MANY, file, served, until_served};
 use block_checker::{Accepted, check};
@@ -13,21 +13,22 @@ use std::process::Abort;
 use vreg_groups::{Agnostic, Vlen};
 
 /// Three bytes that are written, three that are read, and their number.
-fn parameters() -> Option<Parameters> {
-    let buffer = |mode| Param::Buffer { mode, size: 3 };
-    let none = Param::None;
-    let number = Param::Scalar { lo: 3, hi: 3 };
-    Parameters::new([
-        buffer(Mode::ReadWrite),
-        buffer(Mode::Read),
-        number,
-        none,
-        none,
-        none,
-        none,
-        none,
-    ])
-}
+const PARAMETERS: [Param; 8] = [
+    Param::Buffer {
+        mode: Mode::ReadWrite,
+        size: 3,
+    },
+    Param::Buffer {
+        mode: Mode::Read,
+        size: 3,
+    },
+    Param::Scalar { lo: 3, hi: 3 },
+    Param::None,
+    Param::None,
+    Param::None,
+    Param::None,
+    Param::None,
+];
 
 fn buffer<'a>(rt: impl Abort + Copy, heap: Heap<'a>, bytes: &[u8]) -> Arg<Bytes<Heap<'a>>> {
     Arg::Buffer(Bytes::new(given!(rt; Vec::from_slice(heap, bytes))))
@@ -85,7 +86,7 @@ fn prepared(rt: impl Abort + Copy, alloc: Global) -> Start {
     let file = file(rt, alloc);
     Start {
         image: given!(rt; elf_image::read(alloc, &file)),
-        parameters: found!(rt; parameters()),
+        parameters: found!(rt; Parameters::new(PARAMETERS)),
         ample: Refusing::new(alloc, MANY),
     }
 }
@@ -124,20 +125,6 @@ fn starting_a_memory(rt: HostRuntime) {
     });
 }
 
-/// Asserts that the run has ended after six steps, and what it left.
-fn assert_sum<const VLENB: usize>(
-    rt: impl Abort + Copy,
-    outcome: &Outcome<VLENB, Bytes<Heap<'_>>>,
-) {
-    match outcome {
-        Outcome::Ended(end) => {
-            assert_same!(rt; end.steps, 6);
-            assert_same!(rt; are_args(&end.args, &[0, 2, 1]), true);
-        }
-        _ => panic!(rt; "the run ends"),
-    }
-}
-
 /// What a call gives that is served. Nothing where memory was wanting, and asserts that this is told
 /// and that the arguments come back.
 fn opened_or_wanting<T>(
@@ -156,7 +143,7 @@ fn opened_or_wanting<T>(
     }
 }
 
-/// Asserts that the image is run, or memory wanting, and tells whether it is run.
+/// Asserts that the image is run, to its end after six steps, or memory wanting, and tells whether it is run.
 fn is_run<'a>(rt: impl Abort + Copy, heap: Heap<'a>, after: u64, start: &'a Start) -> bool {
     let (args, keep) = (args(rt, &start.ample), Agnostic::Keep);
     let (image, parameters) = (&start.image, &start.parameters);
@@ -164,7 +151,11 @@ fn is_run<'a>(rt: impl Abort + Copy, heap: Heap<'a>, after: u64, start: &'a Star
     let Some(outcome) = opened_or_wanting(rt, heap, after, ran) else {
         return false;
     };
-    assert_sum(rt, &outcome);
+    let Outcome::Ended(end) = opaque(outcome) else {
+        panic!(rt; "the run ends");
+    };
+    assert_same!(rt; end.steps, 6);
+    assert_same!(rt; are_args(&end.args, &[0, 2, 1]), true);
     true
 }
 
@@ -184,15 +175,6 @@ const ONE_STEP: &str = "\
 000000000000000000000000000000000000000000000000000000000000000000000000000000000000000000000000\
 00000000010000000000010001000000000000000000000000000000";
 
-/// The image of `file` with ecall as its first word, and a certificate for that.
-fn accepted(rt: impl Abort + Copy, alloc: Global) -> Accepted {
-    let mut file = file(rt, alloc);
-    put(rt, &mut file, 0x94, &[0x73, 0, 0, 0]);
-    let image = given!(rt; elf_image::read(alloc, &file));
-    let certificate = given!(rt; cert_note::read(alloc, &bytes_of(rt, alloc, ONE_STEP)));
-    given!(rt; check(alloc, image, certificate, Vlen::V128))
-}
-
 /// Asserts that a session is opened, which runs to its end, or memory wanting, and tells whether it
 /// is opened.
 fn is_opened(rt: impl Abort + Copy, heaps: [Heap<'_>; 2], after: u64, accepted: &Accepted) -> bool {
@@ -207,11 +189,16 @@ fn is_opened(rt: impl Abort + Copy, heaps: [Heap<'_>; 2], after: u64, accepted: 
     true
 }
 
-/// A session takes the memory of its regions alone, as a run does. No step takes any.
+/// A session takes the memory of its regions alone, as a run does. No step takes any. The image is that of `file` with ecall
+/// as its first word.
 #[test]
 fn opening(rt: HostRuntime) {
     let alloc = rt.alloc();
-    let accepted = accepted(rt, alloc);
+    let mut file = file(rt, alloc);
+    put(rt, &mut file, 0x94, &[0x73, 0, 0, 0]);
+    let image = given!(rt; elf_image::read(alloc, &file));
+    let certificate = given!(rt; cert_note::read(alloc, &bytes_of(rt, alloc, ONE_STEP)));
+    let accepted = given!(rt; check(alloc, image, certificate, Vlen::V128));
     let ample = Refusing::new(alloc, MANY);
     until_served(rt, alloc, |heap, after| {
         is_opened(rt, [heap, &ample], after, &accepted)

@@ -30,22 +30,10 @@ pub(crate) const MODES: [RoundingMode; 4] = [
 ];
 
 #[test]
-fn fixed_point_bytes_at_each_length(rt: HostRuntime) {
+fn fixed_point_at_each_length(rt: HostRuntime) {
     try_operations(&rt, &bytes(1), &bytes(2));
-}
-
-#[test]
-fn fixed_point_halves_at_each_length(rt: HostRuntime) {
     try_operations(&rt, &halves(1), &halves(2));
-}
-
-#[test]
-fn fixed_point_words_at_each_length(rt: HostRuntime) {
     try_operations(&rt, &numbers(1), &numbers(2));
-}
-
-#[test]
-fn clips_at_each_length(rt: HostRuntime) {
     try_clips(&rt, &halves(1), &bytes(2));
     try_clips(&rt, &numbers(1), &halves(2));
 }

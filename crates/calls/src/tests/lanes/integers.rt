@@ -49,17 +49,9 @@ pub(crate) const MULTIPLY_ADDS: [MultiplyAddOp; 4] = [
 ];
 
 #[test]
-fn bytes_at_each_length(rt: HostRuntime) {
+fn operations_at_each_length(rt: HostRuntime) {
     try_kernels(&rt, &bytes(1), &bytes(2), &bytes(3));
-}
-
-#[test]
-fn halves_at_each_length(rt: HostRuntime) {
     try_kernels(&rt, &halves(1), &halves(2), &halves(3));
-}
-
-#[test]
-fn words_at_each_length(rt: HostRuntime) {
     try_kernels(&rt, &numbers(1), &numbers(2), &numbers(3));
 }
 

@@ -35,14 +35,10 @@ fn try_combine(rt: impl Abort + Copy, op: LogicOp, a: &[bool; MOST], b: &[bool; 
     let (a, b) = (&a[..], &b[..]);
     combine(op, &mut values[..n], &b[..n]);
     for i in 0..MOST {
-        let expected = if i < n { one_bit(op, a[i], b[i]) } else { a[i] };
+        // The call on one bit.
+        let mut one = [a[i]];
+        combine(op, one.as_mut_slice(), [b[i]].as_slice());
+        let expected = if i < n { one[0] } else { a[i] };
         assert!(rt; values[i] == expected, "a bit of a length");
     }
-}
-
-/// The call on one bit.
-fn one_bit(op: LogicOp, a: bool, b: bool) -> bool {
-    let mut values = [a];
-    combine(op, values.as_mut_slice(), [b].as_slice());
-    values[0]
 }

@@ -39,19 +39,9 @@ macro_rules! try_width {
 
 #[tactic(auto, unfolding(vreg_groups::specs::VectorType::vlmax_of, vreg_groups::specs::Legality::count_of, vreg_groups::specs::Legality::element_bits, vreg_groups::specs::Legality::group_count, vreg_groups::specs::Legality::emul_eighths))]
 #[test]
-fn groups_of_bytes_at_each_length(rt: HostRuntime) {
+fn groups_at_each_length(rt: HostRuntime) {
     try_width!(rt, u8, W8, 512);
-}
-
-#[tactic(auto, unfolding(vreg_groups::specs::VectorType::vlmax_of, vreg_groups::specs::Legality::count_of, vreg_groups::specs::Legality::element_bits, vreg_groups::specs::Legality::group_count, vreg_groups::specs::Legality::emul_eighths))]
-#[test]
-fn groups_of_halves_at_each_length(rt: HostRuntime) {
     try_width!(rt, u16, W16, 256);
-}
-
-#[tactic(auto, unfolding(vreg_groups::specs::VectorType::vlmax_of, vreg_groups::specs::Legality::count_of, vreg_groups::specs::Legality::element_bits, vreg_groups::specs::Legality::group_count, vreg_groups::specs::Legality::emul_eighths))]
-#[test]
-fn groups_of_words_at_each_length(rt: HostRuntime) {
     try_width!(rt, u32, W32, 128);
 }
 
