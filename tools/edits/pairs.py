@@ -1,11 +1,13 @@
-"""The pairs of a crate: how its file of must-fail edits is read, and the changes that each pair makes."""
+"""The pairs of a crate: how its files of must-fail edits are read, and the changes that each pair makes."""
 import re
 from typing import NamedTuple
 
 from rt_texts import functions_of
 
-# The file of a crate's pairs, and the folder in which no other one stands.
-FOLDER, FILE = "must-fail", "pairs.edit"
+# The pair that the gate applies, the other pairs of the crate, and the folder in which no other file stands.
+FOLDER, APPLIED, OTHERS = "must-fail", "gate.edit", "pairs.md"
+# The pairs of a document stand between these lines.
+FENCED = re.compile(r"(?ms)^```text\n(.*?)^```$")
 NAME = re.compile(r"(?m)^# *(.*)\n")
 
 
@@ -34,22 +36,26 @@ class Pair(NamedTuple):
 
 
 def read_pairs(crate):
-    """The pairs of the crate in this folder, in the order of its file; none where it has no edits."""
+    """The pairs of the crate in this folder, the one that the gate applies before the others; none where it has no edits."""
     folder = crate / FOLDER
     for it in sorted(folder.iterdir()) if folder.is_dir() else []:
-        if it.name != FILE:
-            raise EditError(f"{crate.name}/{FOLDER}/{it.name}: all pairs of a crate stand in {FILE}")
-    if not (folder / FILE).is_file():
-        return []
-    pairs = list(pairs_of((folder / FILE).read_text()))
-    for name in {it.name for it in pairs}:
-        if sum(it.name == name for it in pairs) > 1:
-            raise EditError(f"{crate.name}: two pairs are named {name}")
+        if it.name not in (APPLIED, OTHERS):
+            raise EditError(f"{crate.name}/{FOLDER}/{it.name}: pairs stand in {APPLIED} and {OTHERS}")
+    applied = list(pairs_of(text_of(folder / APPLIED)))
+    pairs = applied + [pair for text in FENCED.findall(text_of(folder / OTHERS)) for pair in pairs_of(text)]
+    if pairs and len(applied) != 1:
+        raise EditError(f"{crate.name}: {APPLIED} has {len(applied)} pairs, and not one")
     for it in pairs:
+        if sum(it.name == other.name for other in pairs) > 1:
+            raise EditError(f"{crate.name}: two pairs are named {it.name}")
         if edited(it, {}, crate) is None:
-            raise EditError(f"{crate.name}: {it.name} cannot be made by itself: an `old:` text does not stand there once")
-    apply_all(crate, pairs)
+            raise EditError(f"{crate.name}: {it.name} cannot be made: an `old:` text does not stand there once")
     return pairs
+
+
+def text_of(file):
+    """The text of a file, empty where there is none."""
+    return file.read_text() if file.is_file() else ""
 
 
 def pairs_of(text):
@@ -78,17 +84,6 @@ def changes_of(text):
             yield Change(file, old, line.removeprefix("new:").removeprefix(" "))
 
 
-def apply_all(crate, pairs):
-    """Makes the changes of all pairs one after another, as the gate does, and gives the texts; an error where one cannot be made."""
-    texts = {}
-    for pair in pairs:
-        done = edited(pair, texts, crate)
-        if done is None:
-            raise EditError(f"{crate.name}: {pair.name} cannot be made behind the pairs before it: an `old:` text does not stand there once")
-        texts = done
-    return texts
-
-
 def edited(pair, texts, crate):
     """The texts with the changes of a pair, or None where these cannot be made."""
     texts = dict(texts)
@@ -98,7 +93,7 @@ def edited(pair, texts, crate):
 def make(change, texts, crate):
     """Makes a change in the texts, and gives the text before it; None where the old text does not stand there once."""
     path = crate / change.file
-    before = texts.get(change.file) or (path.read_text() if path.is_file() else "")
+    before = texts.get(change.file) or text_of(path)
     if not change.old or before.count(change.old) != 1:
         return None
     texts[change.file] = before.replace(change.old, change.new)

@@ -59,7 +59,13 @@ class WithCrate(unittest.TestCase):
         self.addCleanup(folder.cleanup)
         self.crate = Path(folder.name) / "low"
         self.put("src/lib.rt", CODE)
-        self.put("must-fail/pairs.edit", EDITS)
+        self.put_pairs(EDITS)
+
+    def put_pairs(self, text):
+        """Puts the first of these pairs where the gate applies it, and the others beside it."""
+        applied, _, others = text.partition("\n\n")
+        self.put("must-fail/gate.edit", f"{applied}\n")
+        self.put("must-fail/pairs.md", f"# More pairs\n\n```text\n{others}```\n")
 
     def put(self, path, text):
         (self.crate / path).parent.mkdir(parents=True, exist_ok=True)
@@ -82,17 +88,26 @@ class Pairs(WithCrate):
         self.assertEqual(list(pairs.pairs_of(first.text())), [first])
 
     def test_a_pair_of_two_changes_is_made_as_one(self):
-        self.put("must-fail/pairs.edit", EDITS + "old: n: u8\nnew: n: u16\n")
+        self.put_pairs(EDITS + "old: n: u8\nnew: n: u16\n")
         texts = pairs.edited(pairs.read_pairs(self.crate)[1], {}, self.crate)
         self.assertIn("fn next(n: u16) -> u8\nrequires { n < 256 }", texts["src/lib.rt"])
 
     def test_what_cannot_be_used_is_told(self):
         again = EDITS + "\n# adds_two\nfile: src/lib.rt\nold: -> bool\nnew: -> u8\n"
-        same = EDITS + "\n# adds_three\nfile: src/lib.rt\nold: n + 1\nnew: n + 3\n"
         behind = EDITS + "\n# adds_three\nfile: src/lib.rt\nold: n + 2\nnew: n + 3\n"
-        for text in [again, same, behind, "old: a\nnew: b\n", "# empty\n", "# two words\nfile: src/lib.rt\nold: n + 1\nnew: n\n"]:
-            self.put("must-fail/pairs.edit", text)
+        for text in [again, behind, "old: a\nnew: b\n", "# empty\n", "# two words\nfile: src/lib.rt\nold: n + 1\nnew: n\n"]:
+            self.put_pairs(text)
             with self.subTest(text=text), self.assertRaises(EditError):
+                pairs.read_pairs(self.crate)
+
+    def test_pairs_of_one_text_stand_side_by_side(self):
+        self.put_pairs(EDITS + "\n# adds_three\nfile: src/lib.rt\nold: n + 1\nnew: n + 3\n")
+        self.assertEqual([it.name for it in pairs.read_pairs(self.crate)], ["adds_two", "takes_more", "adds_three"])
+
+    def test_the_gate_applies_one_pair(self):
+        for text in ["", EDITS.partition("-- Of the next number\n")[2]]:
+            self.put("must-fail/gate.edit", text)
+            with self.subTest(text=text), self.assertRaisesRegex(EditError, "and not one"):
                 pairs.read_pairs(self.crate)
 
     def test_another_file_of_edits_is_refused(self):
@@ -170,7 +185,7 @@ class Sums(WithCrate):
 
     def test_the_text_of_a_pair_counts_for_it_alone(self):
         before = self.sums()
-        self.put("must-fail/pairs.edit", EDITS.replace("n + 2", "n + 3").replace("# takes", "-- A remark\n# takes"))
+        self.put_pairs(EDITS.replace("n + 2", "n + 3").replace("# takes", "-- A remark\n# takes"))
         self.assertNotEqual(self.sums()["adds_two"], before["adds_two"])
         self.assertEqual(self.sums()["takes_more"], before["takes_more"])
 
@@ -279,7 +294,7 @@ class Gate(WithCrate):
 
     def test_a_change_that_is_refused_is_told_and_passes(self):
         self.put("src/lib.rt", CODE.replace("n < 255", "n < 254"))
-        self.put("must-fail/pairs.edit", EDITS.replace("n < 255", "n < 254"))
+        self.put_pairs(EDITS.replace("n < 255", "n < 254"))
         self.assertEqual(self.status("--changed"), 0)
         self.assertEqual(self.tried, ["adds_two", "takes_more"])
         self.assertIn("tools/each-edit --write --changed", self.said)
@@ -295,7 +310,7 @@ class Gate(WithCrate):
         self.assertEqual(self.status("--changed"), 0)
 
     def test_a_row_without_a_pair_fails_until_it_is_written(self):
-        self.put("must-fail/pairs.edit", EDITS.partition("\n# takes")[0] + "\n")
+        self.put_pairs(EDITS.partition("\n# takes")[0] + "\n")
         self.assertEqual(self.status("--changed"), 1)
         self.assertEqual(self.status("--changed", "--write"), 0)
         self.assertEqual(self.tried, [])
@@ -378,7 +393,7 @@ class OfRounds(WithCrate):
 
     def bodies(self):
         """The pairs that change bodies alone, with the functions that they change."""
-        self.put("must-fail/pairs.edit", EDITS + self.MORE)
+        self.put_pairs(EDITS + self.MORE)
         found = [(it, pairs.functions_changed(it, self.crate)) for it in pairs.read_pairs(self.crate)]
         return [it for it in found if it[1]]
 
@@ -403,7 +418,7 @@ class OfRounds(WithCrate):
         self.assertEqual(list(made.goals), ["adds_two"])
 
     def test_pairs_of_one_function_share_no_check(self):
-        self.put("must-fail/pairs.edit", EDITS.replace("old: n + 1\nnew: n + 2", "old: n +\nnew: n *") + "\n# adds_none\nfile: src/lib.rt\nold: 1 //\nnew: 0 //\n")
+        self.put_pairs(EDITS.replace("old: n + 1\nnew: n + 2", "old: n +\nnew: n *") + "\n# adds_none\nfile: src/lib.rt\nold: 1 //\nnew: 0 //\n")
         first, _, third = [(it, pairs.functions_changed(it, self.crate)) for it in pairs.read_pairs(self.crate)]
         self.assertEqual(self.rounds().together([first, third])[0], [first])
 
