@@ -7,6 +7,7 @@ each library whose folders were made at or after SINCE, in seconds since 1970: o
 links the files, which are older, into new folders. A library that is older, or that has a stamp, is left as it is. Prints how many it
 wrote.
 """
+import functools
 import importlib.machinery
 import importlib.util
 import os
@@ -18,7 +19,7 @@ ROOT = Path(__file__).resolve().parents[2]
 
 
 def kit_library():
-    """The kit's own module that knows crates and their stamps."""
+    """The kit's own module that knows crates and their stamps. A crate's stamp is made once here, since it needs those of all below."""
     rt = shutil.which('rt')
     if rt is None:
         sys.exit('rt, the command of the Rattle kit, is not on the PATH')
@@ -27,6 +28,7 @@ def kit_library():
     made = importlib.util.module_from_spec(importlib.util.spec_from_loader('rtlib', loader))
     sys.modules['rtlib'] = made
     loader.exec_module(made)
+    made.Crate.stamp = functools.cache(made.Crate.stamp)
     return made
 
 
