@@ -41,8 +41,10 @@ def read_pairs(crate):
     for it in sorted(folder.iterdir()) if folder.is_dir() else []:
         if it.name not in (APPLIED, OTHERS):
             raise EditError(f"{crate.name}/{FOLDER}/{it.name}: pairs stand in {APPLIED} and {OTHERS}")
-    applied = list(pairs_of(text_of(folder / APPLIED)))
-    pairs = applied + [pair for text in FENCED.findall(text_of(folder / OTHERS)) for pair in pairs_of(text)]
+    applied, others = list(pairs_of(text_of(folder / APPLIED))), text_of(folder / OTHERS)
+    if any(changes_of(FENCED.sub("", others))):
+        raise EditError(f"{crate.name}: a change of {OTHERS} stands outside of its block ```text")
+    pairs = applied + [pair for text in FENCED.findall(others) for pair in pairs_of(text)]
     if pairs and len(applied) != 1:
         raise EditError(f"{crate.name}: {APPLIED} has {len(applied)} pairs, and not one")
     for it in pairs:

@@ -110,6 +110,14 @@ class Pairs(WithCrate):
             with self.subTest(text=text), self.assertRaisesRegex(EditError, "and not one"):
                 pairs.read_pairs(self.crate)
 
+    def test_a_change_outside_of_the_block_is_told(self):
+        written = (self.crate / "must-fail/pairs.md").read_text()
+        behind = written + "\n# adds_three\nfile: src/lib.rt\nold: n + 1\nnew: n + 3\n"
+        for text in [behind, written.replace("```text", "```")]:
+            self.put("must-fail/pairs.md", text)
+            with self.subTest(text=text), self.assertRaisesRegex(EditError, "outside"):
+                pairs.read_pairs(self.crate)
+
     def test_another_file_of_edits_is_refused(self):
         self.put("must-fail/words.edit", EDITS)
         with self.assertRaisesRegex(EditError, "words.edit"):
