@@ -17,6 +17,7 @@ use Rattle.job_reasons.specs.declared.job.JobReason.TheVariants as job_reason
 use Rattle.open_reasons.specs.Open.{open_text}
 use Rattle.region_mem.specs.declared.layout.TheConstants.{MAX_BUFFER_SIZE}
 use Rattle.sandbox_run.specs.Errors as open_words
+use Rattle.commands.specs.Reasoned.{lines_of}
 use Rattle.commands.specs.Words.{Halt, JobError, Stop}
 use Rattle.commands.specs.declared.halt.Halt.TheVariants as halt
 use Rattle.commands.specs.declared.stop.Stop.TheVariants as stop
@@ -33,17 +34,17 @@ error_of (job_reason.Breach breach) = job_error.BadKey
 
 -- without what more is told of it
 abbrev pub stop_of : Halt → Stop
-stop_of (halt.Job reason) = stop.Job (error_of reason)
+stop_of (halt.Job reason) = stop.Job (error_of reason.value)
 stop_of (halt.UntoldJob error) = stop.Job error
 stop_of (halt.Parameters reason) = stop.Job job_error.BadKey
 stop_of halt.LargeFile = stop.Job job_error.BadKey
 stop_of (halt.File path line) = stop.File path
-stop_of (halt.Image told) = stop.Image told.error
-stop_of (halt.Attach told) = stop.Image told.error
+stop_of (halt.Image why) = stop.Image why.error
+stop_of (halt.Attach why) = stop.Image why.error
 stop_of halt.NoCertificate = stop.NoCertificate
-stop_of (halt.Certificate told) = stop.Certificate told.error
-stop_of (halt.Check error reason) = stop.Check error
-stop_of (halt.Make error reason) = stop.Make error
+stop_of (halt.Certificate why) = stop.Certificate why.error
+stop_of (halt.Check why) = stop.Check why.error
+stop_of (halt.Make why) = stop.Make why.error
 stop_of (halt.Open told) = stop.Open told.error
 stop_of halt.Memory = stop.Memory
 stop_of halt.Output = stop.Output
@@ -57,27 +58,26 @@ bare (Err why) = Err (stop_of why)
 
 -- of the very reason to stop: nothing where memory ran out, or standard output took no text
 abbrev pub halt_text : Halt → List ℕ
-halt_text (halt.Job reason) = job_text reason
+halt_text (halt.Job reason) = job_text reason.value
 halt_text (halt.UntoldJob error) = []
-halt_text (halt.Parameters reason) = make_text reason
+halt_text (halt.Parameters None) = []
+halt_text (halt.Parameters (Some reason)) = make_text reason.value
 halt_text halt.LargeFile = codes "  wanted: for each buffer a file of at most "
     ++ (decimal MAX_BUFFER_SIZE ++ codes " bytes\n")
 halt_text (halt.File path None) = []
 halt_text (halt.File path (Some line)) = string_bytes line
-halt_text (halt.Image told) =
-    refused.told (image_words.error_text told.error) (image_text told.reason)
-halt_text (halt.Attach told) =
-    refused.told (image_words.error_text told.error) (make_text told.reason)
+halt_text (halt.Image why) =
+    lines_of (image_words.error_text why.error) (λ kept. image_text kept.value) why.reason
+halt_text (halt.Attach why) =
+    lines_of (image_words.error_text why.error) (λ kept. make_text kept.value) why.reason
 halt_text halt.NoCertificate =
     codes "  wanted: a certificate in a note of the image, as `make` writes it\n"
-halt_text (halt.Certificate told) =
-    refused.told (certificate_words.refusal_text told.error) (certificate_text told.reason)
-halt_text (halt.Check error None) = []
-halt_text (halt.Check error (Some reason)) =
-    refused.told (check_words.error_text error) (check_text reason)
-halt_text (halt.Make error None) = []
-halt_text (halt.Make error (Some reason)) =
-    refused.told (make_words.error_text error) (make_text reason)
+halt_text (halt.Certificate why) = lines_of (certificate_words.refusal_text why.error)
+    (λ kept. certificate_text kept.value) why.reason
+halt_text (halt.Check why) =
+    lines_of (check_words.error_text why.error) (λ kept. check_text kept.value) why.reason
+halt_text (halt.Make why) =
+    lines_of (make_words.error_text why.error) (λ kept. make_text kept.value) why.reason
 halt_text (halt.Open told) = refused.told (open_words.error_text told.error) (open_text told.reason)
 halt_text halt.Memory = []
 halt_text halt.Output = []

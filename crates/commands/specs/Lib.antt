@@ -8,6 +8,7 @@ pub mod Halt
 pub mod Makes
 pub mod Memory
 pub mod Mons
+pub mod Reasoned
 pub mod Runs
 pub mod Starts
 pub mod Steps

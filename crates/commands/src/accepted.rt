@@ -22,7 +22,7 @@ fn certificate_in<'a>(alloc: Global, image: &Image) -> Result<Certificate, Halt<
     };
     match read_kept(alloc, bytes) {
         Ok(certificate) => Ok(certificate),
-        Err(refusal) => Err(bad_certificate(bytes, refusal)),
+        Err(refusal) => Err(bad_certificate(alloc, bytes, refusal)),
     }
 }
 

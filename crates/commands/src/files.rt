@@ -139,7 +139,7 @@ pub fn image_in<'a>(alloc: Global, file: &[u8]) -> Result<Image, Halt<'a>>
 {
     match elf_image::read(alloc, file) {
         Ok(image) => Ok(image),
-        Err(error) => Err(bad_image(file, error)),
+        Err(error) => Err(bad_image(alloc, file, error)),
     }
 }
 

@@ -3,6 +3,7 @@ ghost use Rattle.std.specs.Prelude.{◌≡◌};
 ghost use Rattle.commands.specs.Halt.{error_of, stop_of};
 ghost use Rattle.commands.specs.declared.halt.Halt.TheVariants.{Memory};
 
+use crate::reasoned::Reasoned;
 use crate::stop::Stop;
 use block_checker::CheckError;
 use cert_maker::MakeError;
@@ -23,27 +24,27 @@ use std::fmt;
 #[derive(Drop)]
 pub enum Halt<'a> {
     /// A job is refused for this reason.
-    Job(JobReason),
+    Job(Box<JobReason>),
     /// A job is refused, and memory ran out where it was to be told why.
     UntoldJob(JobError),
-    /// These parameters of a job are refused.
-    Parameters(MakeReason),
+    /// The parameters of a job are refused, for this reason where memory sufficed to keep it.
+    Parameters(Option<Box<MakeReason>>),
     /// A buffer's file is too large.
     LargeFile,
     /// The file at the path was not read or not written, and the line has what the system says of it, if it says anything.
     File(&'a str, Option<String>),
     /// A file is no image.
-    Image(Refusal<ElfError, ImageReason>),
+    Image(Reasoned<ElfError, ImageReason>),
     /// No certificate is attached to an image.
-    Attach(Refusal<ElfError, MakeReason>),
+    Attach(Reasoned<ElfError, MakeReason>),
     /// An image has no certificate.
     NoCertificate,
     /// Bytes are no certificate.
-    Certificate(Refusal<CertError, CertificateReason>),
+    Certificate(Reasoned<CertError, CertificateReason>),
     /// The check refuses an image with its certificate.
-    Check(CheckError, Option<CheckReason>),
+    Check(Reasoned<CheckError, CheckReason>),
     /// No certificate is made of an image.
-    Make(MakeError, Option<MakeReason>),
+    Make(Reasoned<MakeError, MakeReason>),
     /// No run is opened.
     Open(Refusal<OpenError, OpenReason>),
     /// Memory ran out.
@@ -68,16 +69,16 @@ impl<'a> Halt<'a> {
         ensures { result ≡ stop_of self.now }
     {
         match self {
-            Halt::Job(reason) => Stop::Job(error_of(reason)),
+            Halt::Job(reason) => Stop::Job(error_of(reason.as_ref())),
             Halt::UntoldJob(error) => Stop::Job(*error),
             Halt::Parameters(_) | Halt::LargeFile => Stop::Job(JobError::BadKey),
             Halt::File(path, _) => Stop::File(*path),
-            Halt::Image(refusal) => Stop::Image(refusal.error),
-            Halt::Attach(refusal) => Stop::Image(refusal.error),
+            Halt::Image(why) => Stop::Image(why.error),
+            Halt::Attach(why) => Stop::Image(why.error),
             Halt::NoCertificate => Stop::NoCertificate,
-            Halt::Certificate(refusal) => Stop::Certificate(refusal.error),
-            Halt::Check(error, _) => Stop::Check(*error),
-            Halt::Make(error, _) => Stop::Make(*error),
+            Halt::Certificate(why) => Stop::Certificate(why.error),
+            Halt::Check(why) => Stop::Check(why.error),
+            Halt::Make(why) => Stop::Make(why.error),
             Halt::Open(refusal) => Stop::Open(refusal.error),
             Halt::Memory => Stop::Memory,
             Halt::Output => Stop::Output,
@@ -102,7 +103,8 @@ impl fmt::Display for Halt<'_> {
     fn fmt<W: fmt::Write>(&self, f: &mut fmt::Formatter<W>) -> fmt::Result {
         match self {
             Halt::Job(reason) => write!(f, "{reason}"),
-            Halt::Parameters(reason) => write!(f, "{reason}"),
+            Halt::Parameters(None) => Ok(()),
+            Halt::Parameters(Some(reason)) => write!(f, "{reason}"),
             Halt::LargeFile => {
                 writeln!(
                     f,
@@ -111,19 +113,17 @@ impl fmt::Display for Halt<'_> {
             }
             Halt::File(_, None) => Ok(()),
             Halt::File(_, Some(line)) => write!(f, "{line}"),
-            Halt::Image(refusal) => write!(f, "{refusal}"),
-            Halt::Attach(refusal) => write!(f, "{refusal}"),
+            Halt::Image(why) => write!(f, "{why}"),
+            Halt::Attach(why) => write!(f, "{why}"),
             Halt::NoCertificate => {
                 writeln!(
                     f,
                     "  wanted: a certificate in a note of the image, as `make` writes it"
                 )
             }
-            Halt::Certificate(refusal) => write!(f, "{refusal}"),
-            Halt::Check(_, None) => Ok(()),
-            Halt::Check(error, Some(reason)) => write!(f, "  {error}\n{reason}"),
-            Halt::Make(_, None) => Ok(()),
-            Halt::Make(error, Some(reason)) => write!(f, "  {error}\n{reason}"),
+            Halt::Certificate(why) => write!(f, "{why}"),
+            Halt::Check(why) => write!(f, "{why}"),
+            Halt::Make(why) => write!(f, "{why}"),
             Halt::Open(refusal) => write!(f, "{refusal}"),
             Halt::UntoldJob(_) | Halt::Memory | Halt::Output => Ok(()),
         }

@@ -21,6 +21,7 @@ mod lines;
 mod makes;
 mod memory;
 mod mons;
+mod reasoned;
 mod registers;
 mod runs;
 mod sources;

@@ -16,6 +16,7 @@ use crate::checks::print_bound;
 use crate::did::Did;
 use crate::files::{image_in, read_image_file, write};
 use crate::halt::Halt;
+use crate::reasoned::boxed;
 use crate::starts::{on_table, taken};
 use crate::stop::Status;
 use crate::store::Store;
@@ -108,7 +109,7 @@ fn certificate_for<'a>(alloc: Global, job: &MakeJob, image: &Image) -> Result<Ce
     ensures { OrMemory (certificate_for job.now image.now) (bare result) }
 {
     let Some(parameters) = Parameters::new(job.params) else {
-        return Err(Halt::Parameters(parameter_reason(&job.params)));
+        return Err(Halt::Parameters(boxed(alloc, parameter_reason(&job.params))));
     };
     match make(alloc, image, &parameters, job.vlen) {
         Ok(certificate) => Ok(certificate),
@@ -128,7 +129,7 @@ fn with_certificate<'a>(
     let note = cert_note::write(alloc, certificate)?;
     match attach(alloc, file, note.as_slice()) {
         Ok(bytes) => Ok(bytes),
-        Err(error) => Err(not_attached(file, image, note.len(), error)),
+        Err(error) => Err(not_attached(alloc, file, image, note.len(), error)),
     }
 }
 

@@ -9,6 +9,7 @@ ghost use Rattle.commands.specs.Why.{open_lines};
 ghost use Rattle.sandbox_run.specs.declared.outcome.OpenError.TheVariants.{NoMemory};
 
 use crate::halt::{Halt, error_of};
+use crate::reasoned::{Reasoned, boxed};
 use crate::store::StoreError;
 use block_checker::{Accepted, CheckError, Refused};
 use cert_maker::MakeError;
@@ -48,31 +49,37 @@ pub fn stop_at<'a>(
 }
 
 /// A file is no image.
-pub fn bad_image<'a>(file: &[u8], error: ElfError) -> Halt<'a>
+pub fn bad_image<'a>(alloc: Global, file: &[u8], error: ElfError) -> Halt<'a>
     ensures { stop_of result ≡ stop_of_image error }
 {
     if let ElfError::NoMemory = error {
         Halt::Memory
     } else {
         let reason = image_reason(file, error);
-        Halt::Image(Refusal { error, reason })
+        Halt::Image(Reasoned::new(alloc, error, reason))
     }
 }
 
 /// No certificate of so many bytes is attached to an image.
-pub fn not_attached<'a>(file: &[u8], image: &Image, size: usize, error: ElfError) -> Halt<'a>
+pub fn not_attached<'a>(
+    alloc: Global,
+    file: &[u8],
+    image: &Image,
+    size: usize,
+    error: ElfError,
+) -> Halt<'a>
     ensures { stop_of result ≡ stop_of_image error }
 {
     if let ElfError::NoMemory = error {
         Halt::Memory
     } else {
         let reason = attach_reason(file, image, size, error);
-        Halt::Attach(Refusal { error, reason })
+        Halt::Attach(Reasoned::new(alloc, error, reason))
     }
 }
 
 /// Bytes are no certificate.
-pub fn bad_certificate<'a>(bytes: &[u8], refusal: CertRefusal) -> Halt<'a>
+pub fn bad_certificate<'a>(alloc: Global, bytes: &[u8], refusal: CertRefusal) -> Halt<'a>
     ensures { stop_of result ≡ stop_of_certificate refusal.error }
 {
     let error = refusal.error;
@@ -80,7 +87,7 @@ pub fn bad_certificate<'a>(bytes: &[u8], refusal: CertRefusal) -> Halt<'a>
         Halt::Memory
     } else {
         let reason = refusal_reason(bytes, refusal);
-        Halt::Certificate(Refusal { error, reason })
+        Halt::Certificate(Reasoned::new(alloc, error, reason))
     }
 }
 
@@ -94,17 +101,23 @@ pub fn not_accepted<'a>(alloc: Global, refused: &Refused, vlen: Vlen) -> Halt<'a
     if let CheckError::NoMemory = error {
         Halt::Memory
     } else {
-        Halt::Check(error, reason_of(alloc, refused, vlen).ok())
+        let reason = reason_of(alloc, refused, vlen).ok();
+        Halt::Check(Reasoned::maybe(alloc, error, reason))
     }
 }
 
 /// Why a text is no job of a command, where it is none for this error.
-fn reason_for(alloc: Global, text: &[u8], command: Command, error: JobError) -> Option<JobReason>
-    ensures { IfSome result (λ reason. error_of reason ≡ error) }
+fn reason_for(
+    alloc: Global,
+    text: &[u8],
+    command: Command,
+    error: JobError,
+) -> Option<Box<JobReason>>
+    ensures { IfSome result (λ reason. error_of reason.value ≡ error) }
 {
     let reason = job_reason(alloc, text, command).unwrap_or(None)?;
     if error_of(&reason) == error {
-        Some(reason)
+        boxed(alloc, reason)
     } else {
         None
     }
@@ -130,7 +143,8 @@ pub fn not_made<'a>(alloc: Global, image: &Image, error: MakeError) -> Halt<'a>
     match error {
         MakeError::NoMemory => Halt::Memory,
         MakeError::NotALoopOfTheClass(pc) => {
-            Halt::Make(error, word_reason(alloc, image, pc).ok())
+            let reason = word_reason(alloc, image, pc).ok();
+            Halt::Make(Reasoned::maybe(alloc, error, reason))
         }
     }
 }
