@@ -1,11 +1,12 @@
 -- What `clap` takes has a subcommand with its paths.
-use Rattle.std.proofs.Common.{◌≡◌, ◌∙◌, refl, ap, subst, sym, Bool, true, false, cond, not, ◌&&◌, ◌||◌, List, [], ◌∷◌, Option, Some, None, IsSome, ℕ, is_some, option_and_then, option_map, codes}
+use Rattle.std.proofs.Common.{◌≡◌, ◌∙◌, refl, ap, subst, sym, Bool, true, false, cond, not, ◌&&◌, ◌||◌, List, [], ◌∷◌, Option, Some, None, IfOk, IfSome, IsSome, Result, Ok, Err, ℕ, is_some, option_and_then, option_map, codes}
 use Rattle.std.specs.Prelude.{find, fold, unwrap_or, slice_get}
 use Rattle.std.specs.Option.{option_map_or}
 use Rattle.std.specs.Str.{bytes_eq}
 use Rattle.std.proofs.lemmas.Slice.Eq.{bytes_eq-Decides}
-use Rattle.clap.specs.Words.{App, Row, Rule, Shape, Text, fault_of, first_of, new_rule, is_simple, is_simple_and_free, subcommand_of, subcommand_rows, subcommand_rows_of, subcommand_name_of, with_subcommand}
+use Rattle.clap.specs.Words.{App, Row, Rule, Shape, Text, app_of, fault_of, first_of, new_rule, shape_of, is_simple, is_simple_and_free, subcommand_of, subcommand_rows, subcommand_rows_of, subcommand_name_of, with_subcommand}
 use Rattle.std.specs.Box.{box_value}
+use Rattle.std.specs.declared.alloc.AllocError.{AllocError}
 use Rattle.clap.specs.Facts.{explicit_source}
 use Rattle.clap.specs.Kinds.{HasKind, Kinds, check_kinds, or_else}
 use Rattle.clap.specs.Faults.{check_fault, defaults_fault, entered_fault, level_fault, other_fault, settle_fault, step_fault, turn_fault, walk_fault, word_fault}
@@ -14,11 +15,13 @@ use Rattle.clap.specs.Takes.{is_given}
 use Rattle.clap.specs.Lexer.{long_of, short_of}
 use Rattle.clap.specs.Walk.{Held, Names, Outcome, Step, Waiting, Walk, after_flag, after_step, answers_to, arg_by_index, done, idle, long_or_other, next, nothing_held, option, plain, plain_word, positional, refused, rows_after, settled, short_or_plain, stop_after, subcommand, subcommand_met, subcommand_or_other, to_positional, trailing, value, waits, walk, walk_from, walked, walked_from, word_met}
 use Rattle.clap.proofs.OnLiterals.{clap_on_literals}
+use Rattle.clap.specs.declared.builder.command.Command.{Command}
 use Rattle.clap.specs.declared.error.Error.{Error}
 use Rattle.clap.specs.declared.error.kind.ErrorKind.{ErrorKind}
 use Rattle.clap.specs.declared.parser.matches.ArgMatches.{ArgMatches}
 use Rattle.clap.specs.declared.parser.matches.ArgMatches.TheViews.{out-ArgMatches, out-SubCommand}
-use Rattle.command_line.specs.Line.{AreMakePathsOf, IsExplained, IsFlagged, IsPathOf, IsToldOf, app, bare_app, check_shape, flag_of, make_paths_of, make_shape, mon_shape, path_of, path_shape, run_shape, texts_of, told_shape, try_shape}
+use Rattle.command_line.specs.Line.{AreMakePathsOf, IsExplained, IsFlagged, IsLineOf, IsPathOf, IsToldOf, IsWith, app, bare_app, check_shape, flag_of, make_paths_of, make_shape, mon_shape, path_of, path_shape, run_shape, texts_of, told_shape, try_shape}
+use Rattle.command_line.specs.declared.line.asked.Line.{Line}
 use Rattle.commands.specs.declared.makes.MakePaths.{MakePaths}
 use Rattle.command_line.proofs.FilledRows.{AllAsk, AllFill, found_value, flagging, level_filled, setting}
 
@@ -31,9 +34,18 @@ app_is_simple : is_simple app ≡ true
 app_is_simple = refl
 
 -- a command with one more subcommand, where both are known in other words
-pub with_more : (before known : App) (sub shape : Shape) (a : App) → a ≡ with_subcommand before sub → before ≡ known → sub ≡ shape
-    → a ≡ with_subcommand known shape
-with_more before known sub shape a is first second = is ∙ ap (λ x. with_subcommand x sub) first ∙ ap (with_subcommand known) second
+pub with_more : (before known : App) (sub : Result Command AllocError) (shape : Shape) (a : App) → IsWith before sub a → before ≡ known
+    → IfOk sub (λ made. shape_of made ≡ shape) → a ≡ with_subcommand known shape
+with_more before known sub shape a (made, is, with) first second =
+    let shaped : shape_of made ≡ shape = subst (λ s. IfOk s (λ made. shape_of made ≡ shape)) is second in
+    with ∙ ap (λ x. with_subcommand x (shape_of made)) first ∙ ap (with_subcommand known) shaped
+
+-- the same of a command that may not be made
+pub if_with : (result : Result Command AllocError) (before known : App) (sub : Result Command AllocError) (shape : Shape)
+    → IfOk result (λ c. IsWith before sub (app_of c)) → before ≡ known → IfOk sub (λ made. shape_of made ≡ shape)
+    → IfOk result (λ c. app_of c ≡ with_subcommand known shape)
+if_with (Ok c) before known sub shape is first second = with_more before known sub shape (app_of c) is first second
+if_with (Err e) before known sub shape is first second = tt
 
 -- ---- a path of the subcommand that was entered
 
@@ -350,26 +362,29 @@ pub is_flagged : (words : List Text) (name flag : Text) (asked : Bool) (entered 
     → entered ≡ subcommand_of app words → asked ≡ flag_of name flag entered → IsFlagged words name flag asked
 is_flagged words name flag asked entered same at = at ∙ ap (flag_of name flag) same
 
--- a line of one path, as matches of the program's command give it
-pub path_line : (a : App) (words : List Text) (X : Type 0) (name id path : Text) (explain : Bool) (entered : Option (Text × List Row)) → a ≡ app
-    → (is_simple_and_free a ≡ true → fault_of a words ≡ []) → (is_simple a ≡ true → X × (entered ≡ subcommand_of a words))
-    → Some path ≡ path_of name id entered → explain ≡ flag_of name (codes "explain") entered
+-- a line of one path
+pub path_line : (words : List Text) (name id path : Text) (explain : Bool) (entered : Option (Text × List Row)) → fault_of app words ≡ []
+    → entered ≡ subcommand_of app words → Some path ≡ path_of name id entered → explain ≡ flag_of name (codes "explain") entered
     → IsPathOf words name id path × IsExplained words name explain
-path_line a words X name id path explain entered is none matches at asked =
-    let same = same_entered a words X entered is matches in
-    (is_path words name id path entered (no_fault a words is none) same at, is_flagged words name (codes "explain") explain entered same asked)
+path_line words name id path explain entered none same at asked =
+    (is_path words name id path entered none same at, is_flagged words name (codes "explain") explain entered same asked)
 
 -- the same of a subcommand that tells how a run ended
-pub told_line : (a : App) (words : List Text) (X : Type 0) (name path : Text) (explain registers : Bool) (entered : Option (Text × List Row)) → a ≡ app
-    → (is_simple_and_free a ≡ true → fault_of a words ≡ []) → (is_simple a ≡ true → X × (entered ≡ subcommand_of a words))
-    → Some path ≡ path_of name (codes "job") entered → explain ≡ flag_of name (codes "explain") entered
+pub told_line : (words : List Text) (name path : Text) (explain registers : Bool) (entered : Option (Text × List Row)) → fault_of app words ≡ []
+    → entered ≡ subcommand_of app words → Some path ≡ path_of name (codes "job") entered → explain ≡ flag_of name (codes "explain") entered
     → registers ≡ flag_of name (codes "registers") entered → IsToldOf words name path explain registers
-told_line a words X name path explain registers entered is none matches at asked shows =
-    let same = same_entered a words X entered is matches in (
-      is_path words name (codes "job") path entered (no_fault a words is none) same at,
-      is_flagged words name (codes "explain") explain entered same asked,
-      is_flagged words name (codes "registers") registers entered same shows,
-    )
+told_line words name path explain registers entered none same at asked shows = (
+  is_path words name (codes "job") path entered none same at,
+  is_flagged words name (codes "explain") explain entered same asked,
+  is_flagged words name (codes "registers") registers entered same shows,
+)
+
+-- the line that is asked for
+pub line_taken : (words : List Text) (line : Line) → (l : Line) × (Some line ≡ Some l) × IsLineOf words l → IsLineOf words line
+line_taken words line (l, is, of) = subst (λ o. IfSome o (IsLineOf words)) (sym is) of
+
+pub none_taken : (words : List Text) → (l : Line) × (None ≡ Some l) × IsLineOf words l → ⊥
+none_taken words (l, is, of) = cc
 
 -- a path that was not found
 pub no_path_of : (words : List Text) (name id : Text) (entered : Option (Text × List Row)) → entered ≡ subcommand_of app words

@@ -1,11 +1,13 @@
 -- The command line: which words name which subcommand and paths, over `clap`'s own
 -- account of a command.
-use Rattle.std.specs.Prelude.{◌≡◌, List, [], Option, Some, None, option_and_then, option_map, if◌then◌else◌, codes, Bool, true, false}
+use Rattle.std.specs.Prelude.{◌≡◌, List, [], Option, Some, None, Result, Ok, option_and_then, option_map, if◌then◌else◌, codes, Bool, true, false}
+use Rattle.std.specs.declared.alloc.AllocError.{AllocError}
 use Rattle.std.specs.Str.{bytes_eq}
 use Rattle.command_line.specs.Words.{Check, kind_of, Kinds, Line, LineError, Make, Mon, Run, Try}
-use Rattle.clap.specs.Words.{App, Row, Rule, Shape, Text, fault_of, first_of, new_app, new_rule, subcommand_of, with_rule, with_subcommand, IsAmong}
+use Rattle.clap.specs.Words.{App, Row, Rule, Shape, Text, fault_of, first_of, new_app, new_rule, shape_of, subcommand_of, with_rule, with_subcommand, IsAmong}
 use Rattle.clap.specs.Simple.{new_shape}
 use Rattle.clap.specs.declared.builder.action.ArgAction.TheVariants.{Set, SetTrue}
+use Rattle.clap.specs.declared.builder.command.Command.{Command}
 use Rattle.commands.specs.declared.makes.MakePaths.{MakePaths}
 use Rattle.command_line.specs.declared.line.asked.LineError.TheVariants.{Usage, NoMemory}
 
@@ -64,6 +66,11 @@ make_shape = (with_rule (with_rule (with_rule (with_rule (new_app (codes "make")
 abbrev pub app : App
 app = with_subcommand (with_subcommand (with_subcommand (with_subcommand (with_subcommand bare_app
     check_shape) run_shape) try_shape) mon_shape) make_shape
+
+-- `after` is `before` with one more subcommand, which was made
+abbrev pub IsWith : App → Result Command AllocError → App → Type 0
+IsWith before sub after =
+    (made : Command) × (sub ≡ Ok made) × (after ≡ with_subcommand before (shape_of made))
 
 -- the path that matches of a subcommand hold under an id, where the subcommand has this name
 abbrev pub path_of : Text → Text → Option (Text × List Row) → Option Text
@@ -128,6 +135,12 @@ IsLineOf words (Mon job explain) =
     IsPathOf words (codes "mon") (codes "job") job.now × IsExplained words (codes "mon") explain
 IsLineOf words (Make paths explain) =
     AreMakePathsOf words paths × IsExplained words (codes "make") explain
+
+-- matches ask for what words do that `clap` takes and to which it gives them
+abbrev pub IsTaken : Option (Text × List Row) → Option Line → Type 0
+IsTaken entered asked = (words : List Text) → fault_of app words ≡ []
+    → entered ≡ subcommand_of app words
+    → (line : Line) × (asked ≡ Some line) × IsLineOf words line
 
 -- a fault of usage is one of those that `clap` finds, of the kind that the error shows
 abbrev pub IsFaultIn : Kinds → LineError → Type 0

@@ -3,9 +3,9 @@ ghost use Rattle.std.specs.Prelude.{◌≡◌, IfErr, IfOk, codes, false, map, o
 ghost use Rattle.clap.specs.Words.{app_of, kind_of, rule_of, shape_of, subcommand_rows_of};
 ghost use Rattle.clap.specs.Words.{with_rule, with_subcommand};
 ghost use Rattle.clap.specs.declared.builder.command.Command.TheViews.{out-Command as fields_of};
-ghost use Rattle.command_line.specs.Line.{IsFaultOf, IsLineOf, app, flag_of, flag_rule};
-ghost use Rattle.command_line.specs.Line.{make_paths_of, path_of, path_rule, path_shape};
-ghost use Rattle.command_line.specs.Line.{bare_app, check_shape, make_shape, mon_shape};
+ghost use Rattle.command_line.specs.Line.{IsFaultOf, IsLineOf, IsTaken, IsWith, app, bare_app};
+ghost use Rattle.command_line.specs.Line.{check_shape, flag_of, flag_rule, make_paths_of};
+ghost use Rattle.command_line.specs.Line.{make_shape, mon_shape, path_of, path_rule, path_shape};
 ghost use Rattle.command_line.specs.Line.{texts_of, told_shape};
 
 pub mod asked;
@@ -175,13 +175,15 @@ fn make_command<'a>(alloc: Global) -> Result<Command<'a>, AllocError>
     with_flag(alloc, out, "explain", EXPLAIN)
 }
 
-/// `command` with one more subcommand, whose version is told as the program's.
-fn with<'a>(command: Command<'a>, sub: Command<'a>) -> Result<Command<'a>, AllocError>
-    requires { (fields_of sub).has_globals ≡ false }
-    ensures { IfOk result
-        (λ c. app_of c ≡ with_subcommand (app_of command.entry) (shape_of sub.entry)) }
+/// `command` with one more subcommand, if that was made. Its version is told as the program's.
+fn with<'a>(
+    command: Command<'a>,
+    sub: Result<Command<'a>, AllocError>,
+) -> Result<Command<'a>, AllocError>
+    requires { IfOk sub (λ made. (fields_of made).has_globals ≡ false) }
+    ensures { IfOk result (λ c. IsWith (app_of command.entry) sub.entry (app_of c)) }
 {
-    let named = sub.display_name("rvvbox")?;
+    let named = sub?.display_name("rvvbox")?;
     command.subcommand(named)
 }
 
@@ -201,14 +203,14 @@ fn bare_command<'a>(alloc: Global) -> Command<'a>
 fn program<'a>(alloc: Global) -> Result<Command<'a>, AllocError>
     ensures { IfOk result (λ c. app_of c ≡ app) }
 {
-    let checking = with(bare_command(alloc), check_command(alloc)?)?;
+    let checking = with(bare_command(alloc), check_command(alloc))?;
     let running = with(
         checking,
         told_command(
             alloc,
             "run",
             "Checks a job's image against its certificate, and runs it if it is accepted",
-        )?,
+        ),
     )?;
     let trying = with(
         running,
@@ -216,11 +218,10 @@ fn program<'a>(alloc: Global) -> Result<Command<'a>, AllocError>
             alloc,
             "try",
             "Runs a job's image, accepted or not, with every test at each step",
-        )?,
+        ),
     )?;
-    let watching = with(trying, mon_command(alloc)?)?;
-    let making = make_command(alloc)?;
-    with(watching, making)
+    let watching = with(trying, mon_command(alloc))?;
+    with(watching, make_command(alloc))
 }
 
 /// The path under `id` of the subcommand `name`, where that one was used.
@@ -251,6 +252,40 @@ fn make_paths<'a>(matches: &ArgMatches<'a>) -> Option<MakePaths<'a>>
     Some(MakePaths { image, job, out })
 }
 
+/// What `clap`'s matches ask for, where they name one of the subcommands.
+fn line_of<'a>(matches: &ArgMatches<'a>) -> Option<Line<'a>>
+    ensures { IsTaken (subcommand_rows_of matches.now) result }
+{
+    if let Some(image) = path(matches, "check", "image") {
+        let explain = is_asked(matches, "check", "explain");
+        Some(Line::Check { image, explain })
+    } else if let Some(job) = path(matches, "run", "job") {
+        let explain = is_asked(matches, "run", "explain");
+        let registers = is_asked(matches, "run", "registers");
+        Some(Line::Run {
+            job,
+            explain,
+            registers,
+        })
+    } else if let Some(job) = path(matches, "try", "job") {
+        let explain = is_asked(matches, "try", "explain");
+        let registers = is_asked(matches, "try", "registers");
+        Some(Line::Try {
+            job,
+            explain,
+            registers,
+        })
+    } else if let Some(job) = path(matches, "mon", "job") {
+        let explain = is_asked(matches, "mon", "explain");
+        Some(Line::Mon { job, explain })
+    } else if let Some(paths) = make_paths(matches) {
+        let explain = is_asked(matches, "make", "explain");
+        Some(Line::Make { paths, explain })
+    } else {
+        None
+    }
+}
+
 /// What the words ask for, of which the first is the program's name.
 ///
 /// A `Line` is what `clap`'s matches give. `LineError::Usage` comes exactly where `clap` refuses the
@@ -262,36 +297,10 @@ pub fn line<'a>(alloc: Global, words: &'a [&'a str]) -> Result<Line<'a>, LineErr
 {
     let command = program(alloc)?;
     match command.try_get_matches_from(words) {
-        Ok(matches) => {
-            if let Some(image) = path(&matches, "check", "image") {
-                let explain = is_asked(&matches, "check", "explain");
-                Ok(Line::Check { image, explain })
-            } else if let Some(job) = path(&matches, "run", "job") {
-                let explain = is_asked(&matches, "run", "explain");
-                let registers = is_asked(&matches, "run", "registers");
-                Ok(Line::Run {
-                    job,
-                    explain,
-                    registers,
-                })
-            } else if let Some(job) = path(&matches, "try", "job") {
-                let explain = is_asked(&matches, "try", "explain");
-                let registers = is_asked(&matches, "try", "registers");
-                Ok(Line::Try {
-                    job,
-                    explain,
-                    registers,
-                })
-            } else if let Some(job) = path(&matches, "mon", "job") {
-                let explain = is_asked(&matches, "mon", "explain");
-                Ok(Line::Mon { job, explain })
-            } else if let Some(paths) = make_paths(&matches) {
-                let explain = is_asked(&matches, "make", "explain");
-                Ok(Line::Make { paths, explain })
-            } else {
-                unreachable!()
-            }
-        }
+        Ok(matches) => match line_of(&matches) {
+            Some(line) => Ok(line),
+            None => unreachable!(),
+        },
         Err(error) => match error.kind() {
             ErrorKind::OutOfMemory => Err(LineError::NoMemory),
             _ => Err(LineError::Usage(shown(alloc, words, error)?)),
