@@ -11,7 +11,7 @@ check after N processor minutes; without --minutes, half a minute for each of th
 or a row no pair, and where the table is to be written anew. Pairs that it did not come to count as not tried.
 
 Both work on a copy of the repository, and begin with what `rt check` has kept. With RT_JOBS=N, N crates are tried side by
-side. Status: 0 where each pair is refused; 1 where one is not, or was not tried, or where the second form finds a row or a
+side; where there are fewer, the many pairs of one are tried in several copies. Status: 0 where each pair is refused; 1 where one is not, or was not tried, or where the second form finds a row or a
 pair alone; 2 for a wrong call.
 """
 import argparse
@@ -27,6 +27,8 @@ from rounds import ROOT, Minutes, crates_of, try_pairs
 DOCUMENT = ROOT / "docs" / "EDITS.md"
 # The processor minutes that the gate gives to each pair that it tries anew.
 MINUTES_A_PAIR = 0.5
+# How many pairs are worth a copy of their own, which checks the crate once more.
+LEAST_APART = 20
 
 
 class WrongCall(Exception):
@@ -76,10 +78,18 @@ def without_pair(pairs, table):
         yield from (f"{DOCUMENT.name} has a row for {name}/{row}, and there is no such pair" for row in table[name] if row not in names)
 
 
+def parts(chosen, rooms):
+    """The pairs of each crate, for so many copies side by side: those of a crate in several parts, where copies are left."""
+    for name, of_crate in chosen.items():
+        count = max(1, min(rooms // len(chosen), len(of_crate) // LEAST_APART))
+        yield from ((name, of_crate[first::count]) for first in range(count))
+
+
 def try_all(chosen, crates, minutes):
-    """Tries the pairs of each crate, as many crates side by side as RT_JOBS says, and gives what came of each as it ends."""
-    with ThreadPoolExecutor(max_workers=max(1, int(os.environ.get("RT_JOBS") or 1))) as pool:
-        began = {pool.submit(try_pairs, name, of_crate, crates, minutes): name for name, of_crate in chosen.items()}
+    """Tries the pairs of each crate, in as many copies side by side as RT_JOBS says, and gives what came of each as it ends."""
+    rooms = max(1, int(os.environ.get("RT_JOBS") or 1))
+    with ThreadPoolExecutor(max_workers=rooms) as pool:
+        began = {pool.submit(try_pairs, name, of_part, crates, minutes): name for name, of_part in parts(chosen, rooms)}
         for it in as_completed(began):
             yield began[it], it.result()
 

@@ -259,6 +259,14 @@ class Table(WithCrate):
         self.assertEqual(record.meant("src/lib.rt", f"{own}\n#[cfg(test)]\nmod tests;\n"), record.meant("src/lib.rt", own))
         self.assertNotEqual(record.meant("src/lib.rt", f"{own}\nmod tests;\n"), record.meant("src/lib.rt", own))
 
+    def test_many_pairs_of_one_crate_are_tried_apart(self):
+        many, few = list(range(45)), list(range(39))
+        self.assertEqual(list(edits_main.parts({"a": many}, 4)), [("a", many[0::2]), ("a", many[1::2])])
+        self.assertEqual(list(edits_main.parts({"a": many}, 1)), [("a", many)])
+        self.assertEqual(list(edits_main.parts({"a": few}, 4)), [("a", few)])
+        self.assertEqual(list(edits_main.parts({"a": many, "b": few}, 3)), [("a", many), ("b", few)])
+        self.assertEqual(list(edits_main.parts({}, 4)), [])
+
     def test_words_name_crates_and_pairs(self):
         of = {"low": pairs.read_pairs(self.crate)}
         self.assertEqual(edits_main.wanted(["low/takes_more", "low/adds_two"], of), of)

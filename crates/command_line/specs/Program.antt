@@ -15,11 +15,14 @@ use Rattle.commands.specs.Streams.{Exchange, IsQuiet, Stream, Wrote, change}
 use Rattle.commands.specs.Tries.{StopsTry, Tries}
 use Rattle.commands.specs.Texts.{stop_text}
 use Rattle.commands.specs.Written.{Gains, Held}
+use Rattle.commands.specs.declared.did.Did.{Did}
 use Rattle.commands.specs.declared.stop.Status.{Status}
-use Rattle.commands.specs.declared.stop.Stop.{Stop}
+use Rattle.commands.specs.declared.halt.Halt.{Halt}
+use Rattle.commands.specs.declared.halt.Halt.TheVariants as halt
 use Rattle.commands.specs.declared.stop.Stop.TheVariants as stop
 use Rattle.commands.specs.declared.store.TheConstants.{MOST_READS}
 use Rattle.command_line.specs.Asked.{is_help}
+use Rattle.job_reasons.specs.declared.job.Command.TheVariants as command
 use Rattle.command_line.specs.Line.{IsLineOf, app}
 use Rattle.commands.specs.declared.stop.Status.TheVariants as status
 
@@ -44,7 +47,7 @@ IsUntouched kinds was has = has ≡ was
 
 -- what a command line's subcommand does with its paths: `e` is what is read and printed, and `was`
 -- and `has` are the files before and after
-abbrev pub Does : Files → Line → Exchange → Option Held → Option Held → Status → Type 0
+abbrev pub Does : Files → Line → Exchange → Option Held → Option Held → Did → Type 0
 Does files (Check image explain) e was has = Checks files image.now (change was has e.had e.has)
 Does files (Run job explain registers) e was has =
     OfTable files job.now (λ table. Runs files registers table (change was has e.had e.has))
@@ -56,21 +59,21 @@ Does files (Make paths explain) e was has = OfTable files paths.job.now
     (λ table. Makes files paths.image.now paths.out.now table (change was has e.had e.has))
 
 -- why it stops
-abbrev pub Stops : Files → Line → Exchange → Option Held → Option Held → Stop → Type 0
+abbrev pub Stops : Files → Line → Exchange → Option Held → Option Held → Halt → Type 0
 Stops files (Check image explain) e was has =
     StopsCheck files (change was has e.had e.has) image.now
 Stops files (Run job explain registers) e was has =
     let c = change was has e.had e.has in
-    StopsOfTable files (Wrote c) job.now (StopsRun files registers c)
+    StopsOfTable command.Run files (Wrote c) job.now (StopsRun files registers c)
 Stops files (Try job explain registers) e was has =
     let c = change was has e.had e.has in
-    StopsOfTable files (Wrote c) job.now (StopsTry files registers c)
+    StopsOfTable command.Try files (Wrote c) job.now (StopsTry files registers c)
 Stops files (Mon job explain) e was has =
-    StopsOfTable files (BeforeAll e (Gains was has)) job.now
+    StopsOfTable command.Mon files (BeforeAll e (Gains was has)) job.now
     (StopsMon MOST_READS files e (Gains was has))
 Stops files (Make paths explain) e was has =
     let c = change was has e.had e.has in
-    StopsOfTable files (Wrote c) paths.job.now
+    StopsOfTable command.Make files (Wrote c) paths.job.now
     (StopsMake files c paths.image.now paths.out.now)
 
 -- whether it is to explain
@@ -87,7 +90,7 @@ explains (Make paths explain) = explain
 abbrev pub IsAsAsked : Files → List Text → Exchange → Option Held → Option Held
     → Stream → Stream → Status → Type 0
 IsAsAsked files words e was has told tells s = fault_of app words ≡ []
-    → Ends false (λ done. ⊥) (λ reason. (reason ≡ stop.Memory) × (has ≡ was) × IsQuiet e) told tells s
+    → Ends false (λ done. ⊥) (λ why. (why ≡ halt.Memory) × (has ≡ was) × IsQuiet e) told tells s
     ⊎ ((line : Line) × IsLineOf words line
     × Ends (explains line) (Does files line e was has) (Stops files line e was has) told tells s)
 

@@ -8,21 +8,25 @@ use Rattle.job_file.specs.Job.{IsTableFault, Text}
 use Rattle.job_file.specs.declared.values.JobError.{JobError}
 use Rattle.job_file.specs.declared.values.JobError.TheVariants as job_error
 use Rattle.job_file.specs.Needs.{RunJob}
+use Rattle.job_reasons.specs.declared.job.Command.{Command}
 use Rattle.job_file.specs.declared.values.RunParam.{RunParam}
 use Rattle.rv_listing.specs.Sinks.{Told}
 use Rattle.toml.specs.Data.{Members}
 use Rattle.toml.specs.Parse.{parse_document}
 use Rattle.commands.specs.Accepted.{IsOrWant}
-use Rattle.commands.specs.Ending.{Ends, IsMore, Tells, more_if, plain, status_after, status_of_end, stop_of_job}
+use Rattle.commands.specs.Did.{did_of}
+use Rattle.commands.specs.Ending.{Ends, IsMore, Tells, more_if, plain, status_after, stop_of_job}
 use Rattle.commands.specs.Files.{ArePassed, Files, IsImageAt, IsNoImageAt, IsNoTable, IsUnfinished, IsUnpassed, IsUnwritten, files_of, image_in, outs_of}
 use Rattle.commands.specs.Halt.{bare, stop_of}
 use Rattle.commands.specs.Starts.{IsStarted, IsUnstarted, StopsStarting}
 use Rattle.commands.specs.Steps.{IsUnasked}
 use Rattle.commands.specs.Streams.{Change, IsTold, Prints, Stream, Wrote, change, stream}
 use Rattle.commands.specs.Trial.{OrMemory, StopsAtTrial, line_of, shown_of, told_of}
+use Rattle.commands.specs.Why.{ExplainsImage}
 use Rattle.commands.specs.Words.{Argument, Halt, ImageView}
 use Rattle.commands.specs.Written.{Gains, Held, Written}
 use Rattle.commands.specs.declared.did.Did.{Did}
+use Rattle.commands.specs.declared.did.Place.{Place}
 use Rattle.commands.specs.declared.stop.Status.{Status}
 use Rattle.commands.specs.declared.stop.Stop.{Stop}
 use Rattle.commands.specs.declared.stop.Stop.TheVariants as stop
@@ -31,17 +35,17 @@ use Rattle.commands.specs.declared.trial.Trial.{Trial}
 -- ---- how a subcommand ends
 
 -- an ending with what was done, and with what more is told of it, is one of a subcommand that does so, or stops so
-pub ends_as : {explains : Bool} {old new : Stream} {s : Status} {does : Status → Type 0} {stops : Stop → Type 0}
+pub ends_as : {explains : Bool} {old new : Stream} {s : Status} {does : Did → Type 0} {stops : Halt → Type 0}
     (came : Result Did Halt) → s ≡ status_after (plain came) → Tells explains came old new
-    → MatchResult (plain came) does stops → Ends explains does stops old new s
+    → MatchResult came does stops → Ends explains does stops old new s
 ends_as came says tells comes = record { came = came; comes = comes; status = says; told = tells }
 
 -- the same, where what was done is known in other words
-pub ends_by : {explains : Bool} {old new : Stream} {s : Status} {does : Status → Type 0} {stops : Stop → Type 0}
-    (came : Result Did Halt) (did : Status → Type 0) (stopped : Stop → Type 0) → s ≡ status_after (plain came)
-    → Tells explains came old new → MatchResult (plain came) did stopped
-    → ((done : Status) → did done → does done) → ((reason : Stop) → stopped reason → stops reason) → Ends explains does stops old new s
-ends_by came did stopped says tells comes so why = ends_as came says tells (MatchResult-weaker (plain came) comes so why)
+pub ends_by : {explains : Bool} {old new : Stream} {s : Status} {does : Did → Type 0} {stops : Halt → Type 0}
+    (came : Result Did Halt) (did : Did → Type 0) (stopped : Halt → Type 0) → s ≡ status_after (plain came)
+    → Tells explains came old new → MatchResult came did stopped
+    → ((done : Did) → did done → does done) → ((why : Halt) → stopped why → stops why) → Ends explains does stops old new s
+ends_by came did stopped says tells comes so why = ends_as came says tells (MatchResult-weaker came comes so why)
 
 -- what was written is told, or cut
 pub told_on : {E : Type 0} (r : Result (Unit {0}) E) (old new : Option (List ℕ)) (before now : ℕ) (text : List ℕ) → Told r old new before now text
@@ -57,16 +61,16 @@ more_is view explains came None is = inr refl
 
 -- ---- a reason to stop that a `?` hands on
 
-pub handed_on : {A : Type 0} (does : A → Type 0) (stops : Stop → Type 0) (r : Result A Halt) (why : Halt)
-    → IsErrAnd r (λ told. told ≡ why) → stops (stop_of why) → MatchResult (bare r) does stops
+pub handed_on : {A : Type 0} (does : A → Type 0) (stops : Halt → Type 0) (r : Result A Halt) (why : Halt)
+    → IsErrAnd r (λ told. told ≡ why) → stops why → MatchResult r does stops
 handed_on does stops (Ok a) why is it = absurd is
-handed_on does stops (Err told) why is it = subst (λ (h : Halt). stops (stop_of h)) (sym is) it
+handed_on does stops (Err told) why is it = subst stops (sym is) it
 
--- the same in a subcommand
-pub handed_over : (does : Status → Type 0) (stops : Stop → Type 0) (r : Result Did Halt) (why : Halt)
-    → IsErrAnd r (λ told. told ≡ why) → stops (stop_of why) → MatchResult (plain r) does stops
-handed_over does stops (Ok a) why is it = absurd is
-handed_over does stops (Err told) why is it = subst (λ (h : Halt). stops (stop_of h)) (sym is) it
+-- the same, of which the reason alone is told
+pub handed_plain : {A : Type 0} (does : A → Type 0) (stops : Stop → Type 0) (r : Result A Halt) (why : Halt)
+    → IsErrAnd r (λ told. told ≡ why) → stops (stop_of why) → MatchResult (bare r) does stops
+handed_plain does stops (Ok a) why is it = absurd is
+handed_plain does stops (Err told) why is it = subst (λ (h : Halt). stops (stop_of h)) (sym is) it
 
 -- ---- what is defined, where the answer is no reason to stop
 
@@ -92,11 +96,12 @@ pub table_parsed : {T : Type 0} (view : T → Members) (bytes text : List ℕ) (
 table_parsed view bytes text (Ok table) same utf8 is none = subst (λ (t : List ℕ). parse_document t ≡ Some (view table)) same is
 table_parsed view bytes text (Err error) same utf8 is none = no_table bytes text error same utf8 none
 
-pub image_read : (files : Files) (path : Text) (had file : List ℕ) (result : Result ImageView Stop)
-    → file ≡ had → files.holds path had → OrMemory (image_in file) result → MatchResult result (IsImageAt files path) (IsNoImageAt files path)
-image_read files path had file (Ok image) same there is =
+pub image_read : (files : Files) (path : Text) (had file : List ℕ) (result : Result ImageView Halt)
+    → file ≡ had → files.holds path had → OrMemory (image_in file) (bare result) → IfErr result (ExplainsImage file)
+    → MatchResult result (IsImageAt files path) (IsNoImageAt files path)
+image_read files path had file (Ok image) same there is told =
     (file, subst (files.holds path) (sym same) there, or_ok (image_in file) image is)
-image_read files path had file (Err reason) same there is = inr (file, subst (files.holds path) (sym same) there, is)
+image_read files path had file (Err why) same there is told = inr (file, subst (files.holds path) (sym same) there, is, told)
 
 -- ---- what a table asks for: `o` is what the program has of it
 
@@ -130,21 +135,21 @@ unwritten_after a b c params args reason same why = subst (λ (h : Option Held).
 -- ---- what `run` and `mon` begin with
 
 -- what is not started stops so, whatever would follow
-pub unstarted : (files : Files) (wrote : Written → Type 0) (later : RunJob Text → AcceptedView → List Argument → Stop → Type 0) (table : Members) (reason : Stop)
-    → IsUnstarted files table reason → wrote [] → StopsStarting files wrote later table reason
-unstarted files wrote later table reason (inl (why, _)) none = inl (why, none)
-unstarted files wrote later table reason (inr (job, asked, inl (why, _))) none = inr (job, asked, inl (why, none))
-unstarted files wrote later table reason (inr (job, asked, inr (image, there, inl (why, _)))) none =
-    inr (job, asked, inr (image, there, inl (why, none)))
-unstarted files wrote later table reason (inr (job, asked, inr (image, there, inr (accepted, passes, inl (why, _))))) none =
-    inr (job, asked, inr (image, there, inr (accepted, passes, inl (why, none))))
-unstarted files wrote later table reason (inr (job, asked, inr (image, there, inr (accepted, passes, inr (args, passed, never))))) none = absurd never
+pub unstarted : (command : Command) (files : Files) (wrote : Written → Type 0) (later : RunJob Text → AcceptedView → List Argument → Halt → Type 0)
+    (text : List ℕ) (table : Members) (why : Halt) → IsUnstarted command files text table why → wrote [] → StopsStarting command files wrote later text table why
+unstarted command files wrote later text table why (inl (is, _)) none = inl (is, none)
+unstarted command files wrote later text table why (inr (job, asked, inl (is, _))) none = inr (job, asked, inl (is, none))
+unstarted command files wrote later text table why (inr (job, asked, inr (image, there, inl (is, _)))) none =
+    inr (job, asked, inr (image, there, inl (is, none)))
+unstarted command files wrote later text table why (inr (job, asked, inr (image, there, inr (accepted, passes, inl (is, _))))) none =
+    inr (job, asked, inr (image, there, inr (accepted, passes, inl (is, none))))
+unstarted command files wrote later text table why (inr (job, asked, inr (image, there, inr (accepted, passes, inr (args, passed, never))))) none = absurd never
 
 -- what is started stops for what follows
-pub stops_started : (files : Files) (wrote : Written → Type 0) (later : RunJob Text → AcceptedView → List Argument → Stop → Type 0) (table : Members)
-    (job : RunJob Text) (accepted : AcceptedView) (args : List Argument) (reason : Stop)
-    → IsStarted files table job accepted args → later job accepted args reason → StopsStarting files wrote later table reason
-stops_started files wrote later table job accepted args reason s is =
+pub stops_started : (command : Command) (files : Files) (wrote : Written → Type 0) (later : RunJob Text → AcceptedView → List Argument → Halt → Type 0)
+    (text : List ℕ) (table : Members) (job : RunJob Text) (accepted : AcceptedView) (args : List Argument) (why : Halt)
+    → IsStarted files table job accepted args → later job accepted args why → StopsStarting command files wrote later text table why
+stops_started command files wrote later text table job accepted args why s is =
     inr (job, s.asked, inr (s.image, s.there, inr (accepted, s.passes, inr (args, s.passed, is))))
 
 -- ---- how `run` and `try` end
@@ -168,21 +173,21 @@ unprinted files c params args reason same why = record {
 
 -- a run that came to a trial is written and told, or why not: `given` is what the job passes, as the program has it
 pub finished : (old new : Stream) (first then has : Option Held) (given params : List (RunParam Text))
-    (defined : Result Trial Stop) (trial : Trial) (asked : Bool) (shown : List ℕ) (result : Result Status Stop) (does : Status → Type 0) (stops : Stop → Type 0)
+    (defined : Result Trial Stop) (explains : Halt → Type 0) (trial : Trial) (place : Option Place) (asked : Bool) (shown : List ℕ) (result : Result Did Halt) (does : Did → Type 0) (stops : Halt → Type 0)
     → given ≡ params → OrMemory defined (Ok trial) → then ≡ first → shown ≡ shown_of asked trial
-    → IfOk result (λ s. s ≡ status_of_end trial.end) → OnOk result (Prints old new (line_of trial ++ shown))
+    → IfOk result (λ did. did ≡ did_of trial.end place) → OnOk result (Prints old new (line_of trial ++ shown))
     → OnOk result (Gains then has (outs_of given trial.args.places))
-    → IfErr result (IsUnfinished (files_of then) (change then has old new) given trial.args.places (line_of trial ++ shown))
-    → ((s : Status) → defined ≡ Ok trial → Gains first has (outs_of params trial.args.places) → Prints old new (told_of asked trial)
-    → s ≡ status_of_end trial.end → does s)
-    → ((reason : Stop) → StopsAtTrial (files_of first) (change first has old new) asked params defined reason → stops reason)
+    → IfErr result (λ why. IsUnfinished (files_of then) (change then has old new) given trial.args.places (line_of trial ++ shown) (stop_of why))
+    → ((did : Did) → defined ≡ Ok trial → Gains first has (outs_of params trial.args.places) → Prints old new (told_of asked trial)
+    → did ≡ did_of trial.end place → does did)
+    → ((why : Halt) → StopsAtTrial (files_of first) (change first has old new) asked params defined explains why → stops why)
     → MatchResult result does stops
-finished old new first then has given params defined trial asked shown (Ok s) does stops same comes none is done told wrote un do_so stop_so =
+finished old new first then has given params defined explains trial place asked shown (Ok did) does stops same comes none is done told wrote un do_so stop_so =
     let outs = subst (λ (ps : List (RunParam Text)). Gains first has (outs_of ps trial.args.places)) same
     (subst (λ (h : Option Held). Gains h has (outs_of given trial.args.places)) none wrote) in
-    do_so s (or_ok defined trial comes) outs (subst (λ (text : List ℕ). Prints old new (line_of trial ++ text)) is told) done
-finished old new first then has given params defined trial asked shown (Err reason) does stops same comes none is done told wrote un do_so stop_so =
-    let all = subst (λ (h : Option Held). IsUnfinished (files_of h) (change h has old new) given trial.args.places (line_of trial ++ shown) reason) none un in
-    let some = subst (λ (ps : List (RunParam Text)). IsUnfinished (files_of first) (change first has old new) ps trial.args.places (line_of trial ++ shown) reason) same all in
-    let why = subst (λ (text : List ℕ). IsUnfinished (files_of first) (change first has old new) params trial.args.places (line_of trial ++ text) reason) is some in
-    stop_so reason (inr (trial, or_ok defined trial comes, why))
+    do_so did (or_ok defined trial comes) outs (subst (λ (text : List ℕ). Prints old new (line_of trial ++ text)) is told) done
+finished old new first then has given params defined explains trial place asked shown (Err why) does stops same comes none is done told wrote un do_so stop_so =
+    let all = subst (λ (h : Option Held). IsUnfinished (files_of h) (change h has old new) given trial.args.places (line_of trial ++ shown) (stop_of why)) none un in
+    let some = subst (λ (ps : List (RunParam Text)). IsUnfinished (files_of first) (change first has old new) ps trial.args.places (line_of trial ++ shown) (stop_of why)) same all in
+    let so = subst (λ (text : List ℕ). IsUnfinished (files_of first) (change first has old new) params trial.args.places (line_of trial ++ text) (stop_of why)) is some in
+    stop_so why (inr (trial, or_ok defined trial comes, so))

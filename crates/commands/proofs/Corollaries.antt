@@ -1,25 +1,33 @@
 -- How subcommands end over files that are known.
-use Rattle.std.proofs.Common.{◌≡◌, ◌⊎◌, ◌∙◌, ◌++◌, inl, inr, map, Bool, true, false, ℕ, List, [], Some, Result, Ok, Err, MatchResult, get_or, refl, sym, ap, subst}
+use Rattle.std.proofs.Common.{◌≡◌, ◌⊎◌, ◌∙◌, ◌++◌, inl, inr, map, Bool, true, false, ℕ, List, [], Option, None, Some, Result, Ok, Err, MatchResult, get_or, refl, sym, ap}
 use Rattle.std.proofs.lemmas.List.{append-nil}
 use Rattle.job_file.specs.Job.{Text}
 use Rattle.job_file.specs.declared.values.RunParam.{RunParam}
 use Rattle.job_file.specs.declared.values.RunParam.TheVariants as given
+use Rattle.job_reasons.specs.declared.job.Command.{Command}
+use Rattle.job_reasons.specs.declared.job.Command.TheVariants as command
 use Rattle.region_mem.specs.declared.arguments.Arg.TheVariants as argument
-use Rattle.commands.specs.Words.{Argument, Members}
+use Rattle.commands.specs.Words.{Argument, Halt, Members}
 use Rattle.commands.specs.Checks.{Checks, StopsCheck}
 use Rattle.commands.specs.Corollary.{AreGiven, IsBoundOf, IsGiven, IsMadeOf, IsRunOf, IsTrialOf, IsWatchOf}
-use Rattle.commands.specs.Ending.{Ends, plain, status_after, status_of}
+use Rattle.commands.specs.Did.{did_of, status_with}
+use Rattle.commands.specs.Ending.{Ends, plain, status_after, status_of, status_of_end}
 use Rattle.commands.specs.Files.{ArePassed, IsPassed, OfTable, StopsOfTable, bytes_at, files_of}
+use Rattle.commands.specs.Halt.{stop_of}
 use Rattle.commands.specs.Makes.{Makes, StopsMake}
 use Rattle.commands.specs.Mons.{Mons}
 use Rattle.commands.specs.Runs.{Runs, StopsRun}
 use Rattle.commands.specs.Tries.{StopsTry, Tries, passed_by}
 use Rattle.commands.specs.Streams.{Change, Exchange, Stream, Wrote, change, stream}
 use Rattle.commands.specs.Written.{Gains, Held}
+use Rattle.commands.specs.declared.did.Did.{Did}
+use Rattle.commands.specs.declared.did.Place.{Place}
 use Rattle.commands.specs.declared.stop.Status.{Status}
 use Rattle.commands.specs.declared.stop.Status.TheVariants as status
 use Rattle.commands.specs.declared.stop.Stop.{Stop}
 use Rattle.commands.specs.declared.stop.Stop.TheVariants as stop
+use Rattle.commands.specs.declared.trial.End.{End}
+use Rattle.commands.specs.declared.trial.End.TheVariants as end
 
 -- the statuses of what was done
 abbrev is_done : Status → Bool
@@ -40,13 +48,22 @@ undone stop.Memory = refl
 undone stop.Output = refl
 
 -- A subcommand that ends with one of these does what it does.
-done_of : {explains : Bool} {does : Status → Type 0} {stops : Stop → Type 0} {told tells : Stream} {s : Status}
-    → Ends explains does stops told tells s → is_done s ≡ true → does s
-done_of {explains} {does} {stops} {told} {tells} {s} e is = by_came (plain e.came) e.comes e.status
+done_of : {explains : Bool} {does : Did → Type 0} {stops : Halt → Type 0} {told tells : Stream} {s : Status}
+    → Ends explains does stops told tells s → is_done s ≡ true → (did : Did) × (s ≡ status_with did) × does did
+done_of {explains} {does} {stops} {told} {tells} {s} e is = by_came e.came e.comes e.status
   where
-    by_came : (r : Result Status Stop) → MatchResult r does stops → s ≡ status_after r → does s
-    by_came (Ok ended) c same = subst does (sym same) c
-    by_came (Err reason) c same = absurd (let both : true ≡ false = sym is ∙ (ap is_done same ∙ undone reason) in cc)
+    by_came : (r : Result Did Halt) → MatchResult r does stops → s ≡ status_after (plain r)
+        → (did : Did) × (s ≡ status_with did) × does did
+    by_came (Ok did) c same = (did, same, c)
+    by_came (Err why) c same = absurd (let both : true ≡ false = sym is ∙ (ap is_done same ∙ undone (stop_of why)) in cc)
+
+-- the status of what was done is that of how the run ended
+ended_so : (e : End) (place : Option Place) → status_with (did_of e place) ≡ status_of_end e
+ended_so end.Ended place = refl
+ended_so (end.Trapped fault) (Some place) = refl
+ended_so (end.Trapped fault) None = refl
+ended_so end.OutOfSteps (Some place) = refl
+ended_so end.OutOfSteps None = refl
 
 some : {A : Type 0} (a b : A) → Some a ≡ Some b → a ≡ b
 some a b is = cc
@@ -65,20 +82,20 @@ pub check_done : {explains : Bool} (was has : Held) (path : Text) (old new : Lis
     → s ≡ status.Done
     → (file : List ℕ) × (bytes_at was path ≡ Some file) × (line : List ℕ) × IsBoundOf file line × (new ≡ old ++ line)
 check_done was has path old new before now told tells s e is =
-    let c = done_of e (ap is_done is) in
+    let (did, same, c) = done_of e (ap is_done is) in
     (c.there.0, c.there.1, _, record { image = c.image; spells = c.there.2; accepted = c.accepted; passes = c.passes; budget = c.budget; entry = c.entry; told = refl }, c.told.0)
 
 pub check_kept : {explains : Bool} (was has : Held) (path : Text) (old new : List ℕ) (before now : ℕ) (told tells : Stream) (s : Status)
     → Ends explains (Checks (files_of (Some was)) path (known was has old new before now))
     (StopsCheck (files_of (Some was)) (known was has old new before now) path) told tells s → has ≡ was
-check_kept was has path old new before now told tells s e = go (plain e.came) e.comes
+check_kept was has path old new before now told tells s e = go e.came e.comes
   where
-    go : (done : Result Status Stop) → MatchResult done (Checks (files_of (Some was)) path (known was has old new before now))
+    go : (done : Result Did Halt) → MatchResult done (Checks (files_of (Some was)) path (known was has old new before now))
         (StopsCheck (files_of (Some was)) (known was has old new before now) path) → has ≡ was
-    go (Ok ended) c = kept was has c.wrote
-    go (Err reason) (inl (why, wrote)) = kept was has wrote.0
-    go (Err reason) (inr (image, there, inl (why, wrote))) = kept was has wrote.0
-    go (Err reason) (inr (image, there, inr (accepted, passes, (budget, entry, same, cut)))) = kept was has cut.0
+    go (Ok did) c = kept was has c.wrote
+    go (Err told) (inl (why, wrote)) = kept was has wrote.0
+    go (Err told) (inr (image, there, inl (why, wrote))) = kept was has wrote.0
+    go (Err told) (inr (image, there, inr (accepted, passes, (budget, entry, same, cut)))) = kept was has cut.0
 
 given_at : (was : Held) (param : RunParam Text) (arg : Argument) → IsPassed (files_of (Some was)) param arg → IsGiven was param arg
 given_at was given.None arg is = is
@@ -88,17 +105,18 @@ given_at was (given.Buffer file out) arg is = is
 are_given : (was : Held) (params : List (RunParam Text)) (args : List Argument) → ArePassed (files_of (Some was)) params args → AreGiven was params args
 are_given was params args (eight, passed) = λ k below. given_at was (get_or params k given.None) (get_or args k argument.None) (passed k below)
 
-abbrev DoesRun : Bool → Held → Text → Change → Status → Type 0
+abbrev DoesRun : Bool → Held → Text → Change → Did → Type 0
 DoesRun registers was path c = OfTable (files_of (Some was)) path (λ table. Runs (files_of (Some was)) registers table c)
 
-abbrev StopsSo : Held → Text → Change → (Change → Members → Stop → Type 0) → Stop → Type 0
-StopsSo was path c stops = StopsOfTable (files_of (Some was)) (Wrote c) path (stops c)
+abbrev StopsSo : Command → Held → Text → Change → (Change → List ℕ → Members → Halt → Type 0) → Halt → Type 0
+StopsSo command was path c stops = StopsOfTable command (files_of (Some was)) (Wrote c) path (stops c)
 
 pub run_done : {explains : Bool} (registers : Bool) (was has : Held) (path : Text) (old new : List ℕ) (before now : ℕ) (told tells : Stream) (s : Status)
-    → Ends explains (DoesRun registers was path (known was has old new before now)) (StopsSo was path (known was has old new before now) (StopsRun (files_of (Some was)) registers)) told tells s
+    → Ends explains (DoesRun registers was path (known was has old new before now)) (StopsSo command.Run was path (known was has old new before now) (StopsRun (files_of (Some was)) registers)) told tells s
     → s ≡ status.Done → IsRunOf registers was has path old new
 run_done registers was has path old new before now told tells s e is =
-    let (table, spells, r) = done_of e (ap is_done is) in
+    let (did, same, does) = done_of e (ap is_done is) in
+    let (table, spells, r) = does in
     record {
       table = table;
       spells = spells;
@@ -116,15 +134,16 @@ run_done registers was has path old new before now told tells s e is =
       files = some _ _ r.wrote;
     }
 
-abbrev DoesTry : Bool → Held → Text → Change → Status → Type 0
+abbrev DoesTry : Bool → Held → Text → Change → Did → Type 0
 DoesTry registers was path c = OfTable (files_of (Some was)) path (λ table. Tries (files_of (Some was)) registers table c)
 
 pub try_done : {explains : Bool} (registers : Bool) (was has : Held) (path : Text) (old new : List ℕ) (before now : ℕ) (told tells : Stream) (s : Status)
-    → Ends explains (DoesTry registers was path (known was has old new before now)) (StopsSo was path (known was has old new before now) (StopsTry (files_of (Some was)) registers)) told tells s
+    → Ends explains (DoesTry registers was path (known was has old new before now)) (StopsSo command.Try was path (known was has old new before now) (StopsTry (files_of (Some was)) registers)) told tells s
     → (s ≡ status.Done) ⊎ (s ≡ status.Stopped) → IsTrialOf registers was has path old new s
 try_done registers was has path old new before now told tells s e is =
     let ended : is_done s ≡ true = elim is [ inl done ↦ ap is_done done | inr stopped ↦ ap is_done stopped ] in
-    let (table, spells, r) = done_of e ended in
+    let (did, same, does) = done_of e ended in
+    let (table, spells, r) = does in
     record {
       table = table;
       spells = spells;
@@ -138,18 +157,19 @@ try_done registers was has path old new before now told tells s e is =
       comes = r.comes;
       printed = r.told.0;
       files = some _ _ r.wrote;
-      status = r.done;
+      status = same ∙ (ap status_with r.done ∙ ended_so r.trial.end r.place);
     }
 
-abbrev DoesMake : Held → Text → Text → Text → Change → Status → Type 0
+abbrev DoesMake : Held → Text → Text → Text → Change → Did → Type 0
 DoesMake was path job_path out c =
     OfTable (files_of (Some was)) job_path (λ table. Makes (files_of (Some was)) path out table c)
 
 pub make_done : {explains : Bool} (was has : Held) (path job_path out : Text) (old new : List ℕ) (before now : ℕ) (told tells : Stream) (s : Status)
-    → Ends explains (DoesMake was path job_path out (known was has old new before now)) (StopsSo was job_path (known was has old new before now) (λ c. StopsMake (files_of (Some was)) c path out)) told tells s
+    → Ends explains (DoesMake was path job_path out (known was has old new before now)) (StopsSo command.Make was job_path (known was has old new before now) (λ c. StopsMake (files_of (Some was)) c path out)) told tells s
     → s ≡ status.Done → IsMadeOf was has path job_path out old new
 make_done was has path job_path out old new before now told tells s e is =
-    let (table, spells, r) = done_of e (ap is_done is) in
+    let (did, same, does) = done_of e (ap is_done is) in
+    let (table, spells, r) = does in
     record {
       table = table;
       spells = spells;
@@ -167,11 +187,12 @@ make_done was has path job_path out old new before now told tells s e is =
       files = some _ _ r.wrote;
     }
 
-pub mon_done : {explains : Bool} {stops : Stop → Type 0} (was has : Held) (path : Text) (e : Exchange) (told tells : Stream) (s : Status)
+pub mon_done : {explains : Bool} {stops : Halt → Type 0} (was has : Held) (path : Text) (e : Exchange) (told tells : Stream) (s : Status)
     → Ends explains (OfTable (files_of (Some was)) path (λ table. Mons (files_of (Some was)) table e (Some was) (Some has))) stops told tells s
     → s ≡ status.Done → IsWatchOf was has path e
 mon_done {explains} {stops} was has path e told tells s ends is =
-    let (table, spells, r) = done_of ends (ap is_done is) in
+    let (did, same, does) = done_of ends (ap is_done is) in
+    let (table, spells, r) = does in
     record {
       table = table;
       spells = spells;

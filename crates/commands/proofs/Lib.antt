@@ -6,4 +6,5 @@ pub mod MonLemmas
 pub mod SourceLemmas
 pub mod TalkLemmas
 pub mod TrialLemmas
+pub mod WhyLemmas
 pub mod WordLemmas

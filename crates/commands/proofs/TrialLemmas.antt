@@ -1,5 +1,6 @@
 -- Parameters and arguments, place by place.
-use Rattle.std.proofs.Common.{◌≡◌, ℕ, suc, ◌<◌, List, [], ◌∷◌, length, map, get_or, refl, arith}
+use Rattle.std.proofs.Common.{◌≡◌, ℕ, suc, ◌<◌, Bool, true, false, if◌then◌else◌, List, [], ◌∷◌, length, map, get_or, None, Some, refl, arith}
+use Rattle.std.specs.List.{list_all}
 use Rattle.std.specs.Borrow.{Bor}
 use Rattle.job_file.specs.Job.{Text}
 use Rattle.job_file.specs.Needs.{run_param_lent, try_param_lent}
@@ -7,7 +8,7 @@ use Rattle.job_file.specs.declared.values.RunParam.{RunParam}
 use Rattle.job_file.specs.declared.values.RunParam.TheVariants as given
 use Rattle.job_file.specs.declared.values.TryParam.{TryParam}
 use Rattle.job_file.specs.declared.values.TryParam.TheVariants as taken
-use Rattle.region_mem.specs.Parameter.{Argument}
+use Rattle.region_mem.specs.Parameter.{Argument, is_valid, parameters_of}
 use Rattle.region_mem.specs.declared.arguments.Arg.TheVariants as argument
 use Rattle.region_mem.specs.declared.parameter.Param.{Param}
 use Rattle.region_mem.specs.declared.parameter.Param.TheVariants as parameter
@@ -40,3 +41,12 @@ passed-each (p ∷ ps) (m ∷ ms) same at =
     rw (first, more) refl
 passed-each [] (m ∷ ms) same at = absurd (omega (arith, same))
 passed-each (p ∷ ps) [] same at = absurd (omega (arith, same))
+
+-- parameters that there can be are those that were given
+pub parameters_given : (params made : List Param) → parameters_of params ≡ Some made → made ≡ params
+unfolding parameters_of
+parameters_given params made is = given (list_all is_valid params) is
+  where
+    given : (valid : Bool) → (if valid then Some params else None) ≡ Some made → made ≡ params
+    given true same = cc
+    given false same = absurd (let never : None ≡ Some made = same in cc)

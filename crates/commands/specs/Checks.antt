@@ -4,10 +4,13 @@ use Rattle.cert_note.specs.Values.{budget_text, product_text}
 use Rattle.cert_note.specs.declared.values.Budget.{Budget}
 use Rattle.commands.specs.Accepted.{accepted_of, certificate_in}
 use Rattle.commands.specs.Files.{Files, IsImageAt, IsNoImageAt}
+use Rattle.commands.specs.Halt.{stop_of}
 use Rattle.commands.specs.Steps.{StopsAt, StopsAtResult}
 use Rattle.commands.specs.Streams.{Change, Cuts, Prints, Wrote}
-use Rattle.commands.specs.Words.{AcceptedView, Gains, ImageView, Status, Stop, Text, Written, block_at}
-use Rattle.commands.specs.declared.stop.Status.TheVariants as status
+use Rattle.commands.specs.Why.{ExplainsAccepted}
+use Rattle.commands.specs.Words.{AcceptedView, Gains, Halt, ImageView, Text, Written, block_at}
+use Rattle.commands.specs.declared.did.Did.{Did}
+use Rattle.commands.specs.declared.did.Did.TheVariants as did
 use Rattle.commands.specs.declared.stop.Stop.TheVariants as stop
 
 -- what a budget's text ends with
@@ -27,7 +30,7 @@ IsBudget accepted budget = option_map (λ block. block.budget)
 -- ---- what is done: `c` is what is left
 
 -- `check`: the image at a path is accepted, and its bound is printed; no file is written
-pub record Checks (files : Files) (path : Text) (c : Change) (s : Status) : Type 0 where
+pub record Checks (files : Files) (path : Text) (c : Change) (d : Did) : Type 0 where
   pub image : ImageView
   pub there : IsImageAt files path image
   pub accepted : AcceptedView
@@ -36,19 +39,19 @@ pub record Checks (files : Files) (path : Text) (c : Change) (s : Status) : Type
   pub entry : IsBudget accepted budget
   pub wrote : Gains c.was c.has []
   pub told : Prints c.old c.new (bound_line budget)
-  pub done : s ≡ status.Done
+  pub done : d ≡ did.Done
 
 -- ---- why it stops
 
 -- after an image was accepted, and these files were written: standard output takes no more than the
 -- beginning of the line that tells its bound
-abbrev pub IsUntold : Change → AcceptedView → Written → Stop → Type 0
-IsUntold c accepted files reason = (budget : Budget) × IsBudget accepted budget
-    × (reason ≡ stop.Output) × Cuts c (bound_line budget) files
+abbrev pub IsUntold : Change → AcceptedView → Written → Halt → Type 0
+IsUntold c accepted files why = (budget : Budget) × IsBudget accepted budget
+    × (stop_of why ≡ stop.Output) × Cuts c (bound_line budget) files
 
 -- `check`: no image is read at the path, it is not accepted, or afterwards; no file is written
-abbrev pub StopsCheck : Files → Change → Text → Stop → Type 0
+abbrev pub StopsCheck : Files → Change → Text → Halt → Type 0
 StopsCheck files c path =
     StopsAt (Wrote c) (IsNoImageAt files path) (IsImageAt files path) (λ image.
     StopsAtResult (Wrote c) (certificate_in image.certificate) (accepted_of None image)
-    (λ accepted. IsUntold c accepted []))
+    (ExplainsAccepted None image) (λ accepted. IsUntold c accepted []))

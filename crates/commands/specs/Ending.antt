@@ -127,11 +127,12 @@ abbrev pub Tells : Bool → Result Did Halt → Stream → Stream → Type 0
 Tells explains came old new = (more : List ℕ) × IsMore explains came more
     × IsTold old new (text_after (plain came) ++ more)
 
--- a subcommand does what it does, or stops for one of its reasons: the status says which, and
--- standard error tells why. `old` and `new` are what that has before and after
-pub record Ends (explains : Bool) (does : Status → Type 0) (stops : Stop → Type 0)
+-- a subcommand does what it does, or stops for one of its reasons, with what more is told of that:
+-- the status says which, and standard error tells why. `old` and `new` are what that has before and
+-- after
+pub record Ends (explains : Bool) (does : Did → Type 0) (stops : Halt → Type 0)
     (old new : Stream) (s : Status) : Type 0 where
   pub came : Result Did Halt
-  pub comes : MatchResult (plain came) does stops
+  pub comes : MatchResult came does stops
   pub status : s ≡ status_after (plain came)
   pub told : Tells explains came old new

@@ -7,13 +7,16 @@ use Rattle.elf_image.specs.File.{image_of}
 use Rattle.job_file.specs.declared.values.JobError.TheVariants.{NotToml}
 use Rattle.job_file.specs.declared.values.RunParam.{RunParam}
 use Rattle.job_file.specs.declared.values.RunParam.TheVariants as given
+use Rattle.job_reasons.specs.declared.job.Command.{Command}
 use Rattle.region_mem.specs.declared.arguments.Arg.TheVariants as argument
 use Rattle.toml.specs.Parse.{parse_document}
 use Rattle.commands.specs.Accepted.{OrMemory}
 use Rattle.commands.specs.Ending.{IsOfFile, stop_of_image}
-use Rattle.commands.specs.Steps.{StopsAt}
+use Rattle.commands.specs.Halt.{stop_of}
 use Rattle.commands.specs.Streams.{Change, Cuts, Wrote}
-use Rattle.commands.specs.Words.{Argument, ElfError, Gains, Held, ImageView, Members, Status, Stop, Text, Written}
+use Rattle.commands.specs.Why.{ExplainsImage, ExplainsJob}
+use Rattle.commands.specs.Words.{Argument, ElfError, Gains, Halt, Held, ImageView, Members, Stop, Text, Written}
+use Rattle.commands.specs.declared.did.Did.{Did}
 use Rattle.commands.specs.declared.store.StoreError.{StoreError}
 use Rattle.commands.specs.declared.store.StoreError.TheVariants as store_error
 use Rattle.commands.specs.declared.stop.Stop.TheVariants as stop
@@ -100,11 +103,16 @@ abbrev pub IsImageAt : Files → Text → ImageView → Type 0
 IsImageAt files path image = (bytes : List ℕ) × files.holds path bytes × (image_in bytes ≡ Ok image)
 
 -- why no image is read there: the file is not read, or has a fault
-abbrev pub IsNoImageAt : Files → Text → Stop → Type 0
-IsNoImageAt files path reason = IsOfFile files.unread path reason
-    ⊎ ((bytes : List ℕ) × files.holds path bytes × OrMemory (image_in bytes) (Err reason))
+abbrev pub IsNoImageAt : Files → Text → Halt → Type 0
+IsNoImageAt files path why = IsOfFile files.unread path (stop_of why)
+    ⊎ ((bytes : List ℕ) × files.holds path bytes × OrMemory (image_in bytes) (Err (stop_of why))
+    × ExplainsImage bytes why)
 
--- the file at a path spells this table of a job
+-- the file at a path has this text, which spells this table of a job
+abbrev pub IsJobAt : Files → Text → List ℕ → Members → Type 0
+IsJobAt files path text table = files.holds path text × (parse_document text ≡ Some table)
+
+-- the same of some text
 abbrev pub IsTableAt : Files → Text → Members → Type 0
 IsTableAt files path table =
     (text : List ℕ) × files.holds path text × (parse_document text ≡ Some table)
@@ -115,20 +123,23 @@ IsNoTable text (stop.Job NotToml) = (¬ (IsUtf8 text)) ⊎ (parse_document text 
 IsNoTable text stop.Memory = IsUtf8 text
 IsNoTable text other = ⊥
 
--- why no table is read at a path: the file is not read, or spells none
-abbrev pub IsNoTableAt : Files → Text → Stop → Type 0
-IsNoTableAt files path reason = IsOfFile files.unread path reason
-    ⊎ ((text : List ℕ) × files.holds path text × IsNoTable text reason)
+-- why a command reads no table at a path: the file is not read, or spells none
+abbrev pub IsNoTableAt : Command → Files → Text → Halt → Type 0
+IsNoTableAt command files path why = IsOfFile files.unread path (stop_of why)
+    ⊎ ((text : List ℕ) × files.holds path text × IsNoTable text (stop_of why)
+    × ExplainsJob command text why)
 
 -- the same on the table that the file at a path spells
-abbrev pub OfTable : Files → Text → (Members → Status → Type 0) → Status → Type 0
-OfTable files path does s = (table : Members) × IsTableAt files path table × does table s
+abbrev pub OfTable : Files → Text → (Members → Did → Type 0) → Did → Type 0
+OfTable files path does d = (table : Members) × IsTableAt files path table × does table d
 
--- why a subcommand on a job stops: its file spells no table, or for a reason of the table's.
--- `wrote xs` says that the files `xs` were written
-abbrev pub StopsOfTable : Files → (Written → Type 0) → Text → (Members → Stop → Type 0) → Stop
-    → Type 0
-StopsOfTable files wrote path = StopsAt wrote (IsNoTableAt files path) (IsTableAt files path)
+-- why a command on a job stops: its file spells no table, or for a reason of the file's text and
+-- table. `wrote xs` says that the files `xs` were written
+abbrev pub StopsOfTable : Command → Files → (Written → Type 0) → Text
+    → (List ℕ → Members → Halt → Type 0) → Halt → Type 0
+StopsOfTable command files wrote path later why =
+    (IsNoTableAt command files path why × wrote [])
+    ⊎ ((text : List ℕ) × (table : Members) × IsJobAt files path text table × later text table why)
 
 -- ---- what is written
 

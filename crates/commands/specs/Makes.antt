@@ -1,5 +1,5 @@
 -- What `make` does.
-use Rattle.std.specs.Prelude.{◌≡◌, ◌⊎◌, ◌∷◌, [], ℕ, List, Option, Some, None, Result, Ok, Err}
+use Rattle.std.specs.Prelude.{◌≡◌, ◌⊎◌, ◌∷◌, [], ℕ, List, length, Option, Some, None, Result, Ok, Err}
 use Rattle.std.specs.Global.{Vec}
 use Rattle.std.specs.Result.{result_map_both}
 use Rattle.cert_maker.specs.Certificates as maker
@@ -12,6 +12,7 @@ use Rattle.elf_image.specs.Attached.{attach_fault, attached_of}
 use Rattle.job_file.specs.Needs.{make_job_in}
 use Rattle.job_file.specs.declared.values.JobError.TheVariants.{BadKey}
 use Rattle.job_file.specs.declared.values.MakeJob.{MakeJob}
+use Rattle.job_reasons.specs.declared.job.Command.TheVariants as command
 use Rattle.region_mem.specs.Parameter.{parameters_of}
 use Rattle.region_mem.specs.declared.parameter.Param.{Param}
 use Rattle.commands.specs.Accepted.{IsOrWant, accepted_of}
@@ -21,8 +22,10 @@ use Rattle.commands.specs.Files.{Files, image_in, unless_fault}
 use Rattle.commands.specs.Halt.{stop_of}
 use Rattle.commands.specs.Steps.{StopsAt, StopsAtJob, StopsAtResult}
 use Rattle.commands.specs.Streams.{Change, Prints, Wrote}
-use Rattle.commands.specs.Words.{AcceptedView, CertificateView, Gains, Halt, ImageView, Members, Status, Stop, Text}
-use Rattle.commands.specs.declared.stop.Status.TheVariants as status
+use Rattle.commands.specs.Why.{ByStep, ExplainsAccepted, ExplainsAttached, ExplainsImage, ExplainsJob, ExplainsLoop}
+use Rattle.commands.specs.Words.{AcceptedView, CertificateView, Gains, Halt, ImageView, Members, Stop, Text}
+use Rattle.commands.specs.declared.did.Did.{Did}
+use Rattle.commands.specs.declared.did.Did.TheVariants as did
 use Rattle.commands.specs.declared.stop.Stop.TheVariants as stop
 
 -- what follows a value, or the reason to stop
@@ -75,12 +78,29 @@ bytes_of answer = result_map_both (λ bytes. bytes.items) stop_of answer
 abbrev pub AnswersBytes : Result (List ℕ) Stop → Result (Vec ℕ) Halt → Type 0
 AnswersBytes defined answer = IsOrWant defined (bytes_of answer)
 
+-- ---- what more is told
+
+-- why no certificate is made of an image for a job, or attached to its file
+abbrev pub ExplainsMaking : MakeJob → List ℕ → ImageView → Halt → Type 0
+ExplainsMaking job file image =
+    ByStep (certificate_for job image) (ExplainsLoop job.params image)
+    (λ certificate. ExplainsAttached file image.certificate (length (spelling certificate)))
+
+-- why no file with a certificate is made of a file for a job
+abbrev pub ExplainsMade : MakeJob → List ℕ → Halt → Type 0
+ExplainsMade job file = ByStep (image_in file) (ExplainsImage file) (ExplainsMaking job file)
+
+-- why a file that was made is not accepted where it is read back
+abbrev pub ExplainsReadBack : MakeJob → List ℕ → Halt → Type 0
+ExplainsReadBack job bytes =
+    ByStep (image_in bytes) (ExplainsImage bytes) (ExplainsAccepted (Some job.vlen))
+
 -- ---- what is done: `c` is what is left
 
 -- `make` on a job's table, an image's path and the path of the file to write: the image's file
 -- with the certificate that is made is accepted when it is read back, and written, and its
 -- bound is printed
-pub record Makes (files : Files) (path out : Text) (table : Members) (c : Change) (s : Status)
+pub record Makes (files : Files) (path out : Text) (table : Members) (c : Change) (d : Did)
     : Type 0 where
   pub job : MakeJob
   pub asked : make_job_in table ≡ Some job
@@ -94,20 +114,22 @@ pub record Makes (files : Files) (path out : Text) (table : Members) (c : Change
   pub budget : Budget
   pub entry : IsBudget accepted budget
   pub told : Prints c.old c.new (bound_line budget)
-  pub done : s ≡ status.Done
+  pub done : d ≡ did.Done
 
 -- ---- why it stops
 
 -- after the file was made and accepted: it is not written, or its bound is not told
-abbrev pub StopsMade : Files → Change → Text → List ℕ → AcceptedView → Stop → Type 0
-StopsMade files c out bytes accepted reason =
-    (IsOfFile files.unwritten out reason × Wrote c [])
-    ⊎ IsUntold c accepted ((out, bytes) ∷ []) reason
+abbrev pub StopsMade : Files → Change → Text → List ℕ → AcceptedView → Halt → Type 0
+StopsMade files c out bytes accepted why =
+    (IsOfFile files.unwritten out (stop_of why) × Wrote c [])
+    ⊎ IsUntold c accepted ((out, bytes) ∷ []) why
 
--- `make` on a job's table: it asks for no job, the image's file is not read, none is made of it,
--- that is not accepted when it is read back, or afterwards
-abbrev pub StopsMake : Files → Change → Text → Text → Members → Stop → Type 0
-StopsMake files c path out table = StopsAtJob (Wrote c) (make_job_in table) (λ job.
-    StopsAt (Wrote c) (IsOfFile files.unread path) (files.holds path) (λ file.
-    StopsAtResult (Wrote c) (image_in file) (made_of job file) (λ bytes.
-    StopsAtResult (Wrote c) (image_in bytes) (accepted_in job bytes) (StopsMade files c out bytes))))
+-- `make` on a job's text and table: it asks for no job, the image's file is not read, none is made
+-- of it, that is not accepted when it is read back, or afterwards
+abbrev pub StopsMake : Files → Change → Text → Text → List ℕ → Members → Halt → Type 0
+StopsMake files c path out text table =
+    StopsAtJob (Wrote c) (make_job_in table) (ExplainsJob command.Make text) (λ job.
+    StopsAt (Wrote c) (λ why. IsOfFile files.unread path (stop_of why)) (files.holds path) (λ file.
+    StopsAtResult (Wrote c) (image_in file) (made_of job file) (ExplainsMade job file) (λ bytes.
+    StopsAtResult (Wrote c) (image_in bytes) (accepted_in job bytes) (ExplainsReadBack job bytes)
+    (StopsMade files c out bytes))))

@@ -2,17 +2,21 @@
 use Rattle.std.specs.Prelude.{◌≡◌, ◌⊎◌, codes, ℕ, List, Option, Some, None}
 use Rattle.rv_listing.specs.Sinks.{IsCounted}
 use Rattle.job_file.specs.Needs.{RunJob}
+use Rattle.job_reasons.specs.declared.job.Command.TheVariants as command
 use Rattle.region_mem.specs.Memory.{args_of}
 use Rattle.sandbox_run.specs.Session.{IsOpened, SessionView, open_fault}
 use Rattle.sandbox_run.specs.Stops.{IsStop}
 use Rattle.commands.specs.Ending.{stop_of_open}
 use Rattle.commands.specs.Files.{Files, IsUnwritten, outs_of}
+use Rattle.commands.specs.Halt.{stop_of}
+use Rattle.commands.specs.Runs.{ExplainsRun}
 use Rattle.commands.specs.Starts.{IsStarted, StopsStarting}
 use Rattle.commands.specs.Steps.{StopsAt}
 use Rattle.commands.specs.Streams.{Exchange, IsQuiet, IsUnread, Prints, Stream}
 use Rattle.commands.specs.Talks.{AreTold}
-use Rattle.commands.specs.Words.{AcceptedView, Agnostic, Argument, Gains, Held, Members, OpenError, start, Status, Stop, Text, vlenb_of, Written}
-use Rattle.commands.specs.declared.stop.Status.TheVariants as status
+use Rattle.commands.specs.Words.{AcceptedView, Agnostic, Argument, Gains, Halt, Held, Members, OpenError, start, Stop, Text, vlenb_of, Written}
+use Rattle.commands.specs.declared.did.Did.{Did}
+use Rattle.commands.specs.declared.did.Did.TheVariants as did
 use Rattle.commands.specs.declared.stop.Stop.TheVariants as stop
 
 -- ---- a job's run, stopped
@@ -36,7 +40,7 @@ pub record IsStopped (vlenb : ℕ) (agnostic : Agnostic) (max : ℕ) (a : Accept
 -- `mon` on a job's table: the job's image is accepted, the lines of the input are answered on its
 -- run, it is left at a stop, and the out files of all places were written with the buffers as they
 -- stand there
-pub record Mons (files : Files) (table : Members) (e : Exchange) (was has : Option Held) (s : Status)
+pub record Mons (files : Files) (table : Members) (e : Exchange) (was has : Option Held) (d : Did)
     : Type 0 where
   pub job : RunJob Text
   pub accepted : AcceptedView
@@ -45,7 +49,7 @@ pub record Mons (files : Files) (table : Members) (e : Exchange) (was has : Opti
   pub kept : List Argument
   pub stopped : IsStopped (vlenb_of job.vlen) job.agnostic job.max accepted args e kept
   pub wrote : Gains was has (outs_of job.params kept)
-  pub done : s ≡ status.Done
+  pub done : d ≡ did.Done
 
 -- ---- why it stops: `wrote xs` says that the files `xs` were written
 
@@ -77,23 +81,26 @@ IsUnopened (Some error) reason = reason ≡ stop_of_open error
 IsUnopened None reason = reason ≡ stop.Memory
 
 -- no run is opened, and nothing is read or printed, or a line is not answered
-abbrev pub StopsWatching : ℕ → ℕ → ℕ → AcceptedView → List Argument → Exchange → Stop → Type 0
-StopsWatching most vlenb max a args e reason =
-    (IsUnopened (open_fault vlenb a args max) reason × IsQuiet e) ⊎ IsUnanswered most e reason
+abbrev pub StopsWatching : ℕ → ℕ → ℕ → AcceptedView → List Argument → Exchange → Halt → Type 0
+StopsWatching most vlenb max a args e why =
+    (IsUnopened (open_fault vlenb a args max) (stop_of why) × ExplainsRun max a args why
+    × IsQuiet e) ⊎ IsUnanswered most e (stop_of why)
 
 -- after it was started: no run is opened, a line is not answered, or an out file is not written
 abbrev pub StopsWatched : ℕ → Files → Exchange → (Written → Type 0) → RunJob Text → AcceptedView
-    → List Argument → Stop → Type 0
+    → List Argument → Halt → Type 0
 StopsWatched most files e wrote job accepted args =
     StopsAt wrote (StopsWatching most (vlenb_of job.vlen) job.max accepted args e)
     (IsStopped (vlenb_of job.vlen) job.agnostic job.max accepted args e)
-    (IsUnwritten files wrote job.params)
+    (λ kept why. IsUnwritten files wrote job.params kept (stop_of why))
 
 -- no file was written, and nothing was read or printed
 abbrev pub BeforeAll : Exchange → (Written → Type 0) → Written → Type 0
 BeforeAll e wrote files = wrote files × IsQuiet e
 
--- `mon` on a job's table, with at most so many reads of its input: it is not started, or afterwards
-abbrev pub StopsMon : ℕ → Files → Exchange → (Written → Type 0) → Members → Stop → Type 0
+-- `mon` on a job's text and table, with at most so many reads of its input: it is not started, or
+-- afterwards
+abbrev pub StopsMon : ℕ → Files → Exchange → (Written → Type 0) → List ℕ → Members → Halt
+    → Type 0
 StopsMon most files e wrote =
-    StopsStarting files (BeforeAll e wrote) (StopsWatched most files e wrote)
+    StopsStarting command.Mon files (BeforeAll e wrote) (StopsWatched most files e wrote)

@@ -2,13 +2,17 @@
 use Rattle.std.specs.Prelude.{◌≡◌, Bool, ℕ, List, Option, Some, None, Result, Ok, Err}
 use Rattle.block_checker.specs.Bound.{bound_of, scalars_of}
 use Rattle.job_file.specs.Needs.{RunJob}
+use Rattle.job_reasons.specs.declared.job.Command.TheVariants as command
 use Rattle.sandbox_run.specs.Session.{open_fault}
-use Rattle.commands.specs.Ending.{status_of_end, stop_of_open}
+use Rattle.commands.specs.Did.{did_of}
+use Rattle.commands.specs.Ending.{stop_of_open}
 use Rattle.commands.specs.Files.{Files, outs_of}
 use Rattle.commands.specs.Starts.{IsStarted, StopsStarting}
 use Rattle.commands.specs.Streams.{Change, Prints, Wrote}
 use Rattle.commands.specs.Trial.{StopsAtTrial, told_of, trial_from}
-use Rattle.commands.specs.Words.{AcceptedView, Agnostic, Argument, Gains, Members, OpenError, start, Status, Stop, Text, vlenb_of}
+use Rattle.commands.specs.Why.{ExplainsOpened}
+use Rattle.commands.specs.Words.{AcceptedView, Agnostic, Argument, Gains, Halt, Members, OpenError, start, Stop, Text, vlenb_of}
+use Rattle.commands.specs.declared.did.Did.{Did}
 use Rattle.commands.specs.declared.trial.Trial.{Trial}
 
 -- ---- a job's run
@@ -34,7 +38,7 @@ run_of_job job a args = session_of (vlenb_of job.vlen) job.agnostic job.max a ar
 -- `run` on a job's table: the job's image is accepted, what comes of the job on it is printed, with
 -- the registers or without, and the out files of all places were written with the buffers as the
 -- run left them
-pub record Runs (files : Files) (registers : Bool) (table : Members) (c : Change) (s : Status)
+pub record Runs (files : Files) (registers : Bool) (table : Members) (c : Change) (d : Did)
     : Type 0 where
   pub job : RunJob Text
   pub accepted : AcceptedView
@@ -44,16 +48,24 @@ pub record Runs (files : Files) (registers : Bool) (table : Members) (c : Change
   pub comes : run_of_job job accepted args ≡ Ok trial
   pub wrote : Gains c.was c.has (outs_of job.params trial.args.places)
   pub told : Prints c.old c.new (told_of registers trial)
-  pub done : s ≡ status_of_end trial.end
+  pub done : d ≡ did_of trial.end None
 
 -- ---- why it stops
 
+-- why no run of an accepted image is opened, with the bound that its certificate states for these
+-- arguments
+abbrev pub ExplainsRun : ℕ → AcceptedView → List Argument → Halt → Type 0
+ExplainsRun max a args =
+    ExplainsOpened a.certificate.parameters args (bound_of a (scalars_of args)) max
+
 -- after it was started: no run starts, or its outcome is not written or told
-abbrev pub StopsRan : Files → Bool → Change → RunJob Text → AcceptedView → List Argument → Stop
+abbrev pub StopsRan : Files → Bool → Change → RunJob Text → AcceptedView → List Argument → Halt
     → Type 0
 StopsRan files registers c job accepted args =
     StopsAtTrial files c registers job.params (run_of_job job accepted args)
+    (ExplainsRun job.max accepted args)
 
--- `run` on a job's table: it is not started, or afterwards
-abbrev pub StopsRun : Files → Bool → Change → Members → Stop → Type 0
-StopsRun files registers c = StopsStarting files (Wrote c) (StopsRan files registers c)
+-- `run` on a job's text and table: it is not started, or afterwards
+abbrev pub StopsRun : Files → Bool → Change → List ℕ → Members → Halt → Type 0
+StopsRun files registers c =
+    StopsStarting command.Run files (Wrote c) (StopsRan files registers c)

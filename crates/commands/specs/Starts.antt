@@ -1,11 +1,14 @@
 -- What `run` and `mon` begin with: a job on an image that is accepted, and what it passes.
-use Rattle.std.specs.Prelude.{◌≡◌, List, Some, Ok}
+use Rattle.std.specs.Prelude.{◌≡◌, ℕ, List, Some, Ok}
 use Rattle.job_file.specs.Needs.{run_job_in}
 use Rattle.job_file.specs.Needs.{RunJob}
+use Rattle.job_reasons.specs.declared.job.Command.{Command}
 use Rattle.commands.specs.Accepted.{accepted_of, certificate_in}
 use Rattle.commands.specs.Files.{ArePassed, Files, IsImageAt, IsNoImageAt, IsUnpassed}
+use Rattle.commands.specs.Halt.{stop_of}
 use Rattle.commands.specs.Steps.{StopsAt, StopsAtJob, StopsAtResult}
-use Rattle.commands.specs.Words.{AcceptedView, Argument, ImageView, Members, Stop, Text, Written}
+use Rattle.commands.specs.Why.{ExplainsAccepted, ExplainsJob}
+use Rattle.commands.specs.Words.{AcceptedView, Argument, Halt, ImageView, Members, Text, Written}
 
 -- a table asks for this job, its image is accepted, and these are the arguments that it passes
 pub record IsStarted (files : Files) (table : Members) (job : RunJob Text) (accepted : AcceptedView)
@@ -16,17 +19,20 @@ pub record IsStarted (files : Files) (table : Members) (job : RunJob Text) (acce
   pub passes : accepted_of (Some job.vlen) image ≡ Ok accepted
   pub passed : ArePassed files job.params args
 
--- why it stops: a table asks for no job, the image is not read or not accepted, what is passed is
--- not read, or, after that, for a reason of `later`
-abbrev pub StopsStarting : Files → (Written → Type 0)
-    → (RunJob Text → AcceptedView → List Argument → Stop → Type 0) → Members → Stop → Type 0
-StopsStarting files wrote later table = StopsAtJob wrote (run_job_in table) (λ job.
+-- why a command stops on a job's text and table: it asks for no job, the image is not read or not
+-- accepted, what is passed is not read, or, after that, for a reason of `later`
+abbrev pub StopsStarting : Command → Files → (Written → Type 0)
+    → (RunJob Text → AcceptedView → List Argument → Halt → Type 0) → List ℕ → Members → Halt
+    → Type 0
+StopsStarting command files wrote later text table =
+    StopsAtJob wrote (run_job_in table) (ExplainsJob command text) (λ job.
     StopsAt wrote (IsNoImageAt files job.image) (IsImageAt files job.image) (λ image.
     StopsAtResult wrote (certificate_in image.certificate) (accepted_of (Some job.vlen) image)
-    (λ accepted.
-    StopsAt wrote (IsUnpassed files job.params) (ArePassed files job.params)
+    (ExplainsAccepted (Some job.vlen) image) (λ accepted.
+    StopsAt wrote (λ why. IsUnpassed files job.params (stop_of why)) (ArePassed files job.params)
     (later job accepted))))
 
 -- why it is not started, whatever follows and was written
-abbrev pub IsUnstarted : Files → Members → Stop → Type 0
-IsUnstarted files = StopsStarting files (λ written. Unit {0}) (λ job accepted args reason. ⊥)
+abbrev pub IsUnstarted : Command → Files → List ℕ → Members → Halt → Type 0
+IsUnstarted command files =
+    StopsStarting command files (λ written. Unit {0}) (λ job accepted args why. ⊥)

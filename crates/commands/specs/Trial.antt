@@ -13,9 +13,10 @@ use Rattle.machine.specs.Run.{outcome}
 use Rattle.region_mem.specs.Digits.{digits_text}
 pub use Rattle.commands.specs.Accepted.{OrMemory}
 use Rattle.commands.specs.Files.{Files, IsUnfinished}
+use Rattle.commands.specs.Halt.{stop_of}
 use Rattle.commands.specs.Steps.{StopsAt}
 use Rattle.commands.specs.Streams.{Change, Wrote}
-use Rattle.commands.specs.Words.{Machine, Stop, Text}
+use Rattle.commands.specs.Words.{Halt, Machine, Stop, Text}
 use Rattle.commands.specs.declared.trial.End.{End}
 use Rattle.commands.specs.declared.trial.End.TheVariants as end
 use Rattle.commands.specs.declared.trial.Trial.{Trial}
@@ -66,9 +67,11 @@ told_of asked trial = line_of trial ++ shown_of asked trial
 
 -- ---- why it stops
 
--- where this is what is defined of a run: it does not start, or its outcome is not written or told
-abbrev pub StopsAtTrial : Files → Change → Bool → List (RunParam Text) → Result Trial Stop → Stop
-    → Type 0
-StopsAtTrial files c asked params defined =
-    StopsAt (Wrote c) (λ reason. OrMemory defined (Err reason)) (λ trial. defined ≡ Ok trial)
-    (λ trial. IsUnfinished files c params trial.args.places (told_of asked trial))
+-- where this is what is defined of a run: it does not start, and `explains` says what more is told
+-- of it, or its outcome is not written or told
+abbrev pub StopsAtTrial : Files → Change → Bool → List (RunParam Text) → Result Trial Stop
+    → (Halt → Type 0) → Halt → Type 0
+StopsAtTrial files c asked params defined explains =
+    StopsAt (Wrote c) (λ why. OrMemory defined (Err (stop_of why)) × explains why)
+    (λ trial. defined ≡ Ok trial)
+    (λ trial why. IsUnfinished files c params trial.args.places (told_of asked trial) (stop_of why))

@@ -1,5 +1,5 @@
 -- What `try` does.
-use Rattle.std.specs.Prelude.{◌≡◌, ◌-◌, ◌^◌, Bool, ℕ, min, List, length, map, Option, Some, None, Result, Ok, Err}
+use Rattle.std.specs.Prelude.{◌≡◌, ◌-◌, ◌^◌, Bool, ℕ, min, List, length, map, Option, Some, None, IfSome, Result, Ok, Err}
 use Rattle.std.specs.List.{zip}
 use Rattle.job_file.specs.Needs.{try_job_in}
 use Rattle.job_file.specs.declared.values.JobError.TheVariants.{BadKey}
@@ -8,18 +8,23 @@ use Rattle.job_file.specs.declared.values.RunParam.TheVariants as given
 use Rattle.job_file.specs.Needs.{TryJob}
 use Rattle.job_file.specs.declared.values.TryParam.{TryParam}
 use Rattle.job_file.specs.declared.values.TryParam.TheVariants as taken
+use Rattle.job_reasons.specs.declared.job.Command.TheVariants as command
 use Rattle.region_mem.specs.Parameter.{argument_error, parameters_of}
 use Rattle.region_mem.specs.declared.arguments.Arg.TheVariants as argument
 use Rattle.region_mem.specs.declared.parameter.ArgError.{ArgError}
 use Rattle.region_mem.specs.declared.parameter.Param.{Param}
 use Rattle.region_mem.specs.declared.parameter.Param.TheVariants as parameter
 use Rattle.sandbox_run.specs.Errors.{open_error_of}
-use Rattle.commands.specs.Ending.{status_of_end}
+use Rattle.commands.specs.Did.{did_of, place_line, place_text}
 use Rattle.commands.specs.Files.{ArePassed, Files, IsImageAt, IsNoImageAt, IsUnpassed, outs_of}
+use Rattle.commands.specs.Halt.{stop_of}
 use Rattle.commands.specs.Steps.{StopsAt, StopsAtJob}
 use Rattle.commands.specs.Streams.{Change, Prints, Wrote}
 use Rattle.commands.specs.Trial.{StopsAtTrial, told_of, trial_from}
-use Rattle.commands.specs.Words.{Agnostic, Argument, Gains, ImageView, Members, start, Status, Stop, Text, vlenb_of}
+use Rattle.commands.specs.Why.{ExplainsJob, ExplainsOpened}
+use Rattle.commands.specs.Words.{Agnostic, Argument, Gains, Halt, ImageView, Members, start, Stop, Text, vlenb_of}
+use Rattle.commands.specs.declared.did.Did.{Did}
+use Rattle.commands.specs.declared.did.Place.{Place}
 use Rattle.commands.specs.declared.stop.Stop.TheVariants as stop
 use Rattle.commands.specs.declared.trial.Trial.{Trial}
 
@@ -77,8 +82,9 @@ passed_by (taken.Buffer mode file out) = given.Buffer file out
 -- ---- what is done: `c` is what is left
 
 -- `try` on a job's table: what comes of the job on its image is printed, with the registers or
--- without, and the out files of all places were written with the buffers as the run left them
-pub record Tries (files : Files) (registers : Bool) (table : Members) (c : Change) (s : Status)
+-- without, and the out files of all places were written with the buffers as the run left them; what
+-- more is told is how the run ended and where it stands, or nothing
+pub record Tries (files : Files) (registers : Bool) (table : Members) (c : Change) (d : Did)
     : Type 0 where
   pub job : TryJob Text
   pub asked : try_job_in table ≡ Some job
@@ -90,15 +96,23 @@ pub record Tries (files : Files) (registers : Bool) (table : Members) (c : Chang
   pub comes : trial_of job image args ≡ Ok trial
   pub wrote : Gains c.was c.has (outs_of (map passed_by job.params) trial.args.places)
   pub told : Prints c.old c.new (told_of registers trial)
-  pub done : s ≡ status_of_end trial.end
+  pub place : Option Place
+  pub stands : IfSome place (λ at. place_text at ≡ place_line image trial.registers.pc)
+  pub done : d ≡ did_of trial.end place
 
 -- ---- why it stops
 
--- `try` on a job's table: it asks for no job, the image or what is passed is not read, no run
--- starts, or its outcome is not written or told
-abbrev pub StopsTry : Files → Bool → Change → Members → Stop → Type 0
-StopsTry files registers c table = StopsAtJob (Wrote c) (try_job_in table) (λ job.
+-- why no run of a job on these arguments starts: such a run has no bound
+abbrev pub ExplainsTrial : TryJob Text → List Argument → Halt → Type 0
+ExplainsTrial job args = ExplainsOpened (params_for job.params args) args 0 job.max
+
+-- `try` on a job's text and table: it asks for no job, the image or what is passed is not read, no
+-- run starts, or its outcome is not written or told
+abbrev pub StopsTry : Files → Bool → Change → List ℕ → Members → Halt → Type 0
+StopsTry files registers c text table =
+    StopsAtJob (Wrote c) (try_job_in table) (ExplainsJob command.Try text) (λ job.
     let params = map passed_by job.params in
     StopsAt (Wrote c) (IsNoImageAt files job.image) (IsImageAt files job.image) (λ image.
-    StopsAt (Wrote c) (IsUnpassed files params) (ArePassed files params) (λ args.
-    StopsAtTrial files c registers params (trial_of job image args))))
+    StopsAt (Wrote c) (λ why. IsUnpassed files params (stop_of why)) (ArePassed files params)
+    (λ args. StopsAtTrial files c registers params (trial_of job image args)
+    (ExplainsTrial job args))))

@@ -1,12 +1,107 @@
--- Why a subcommand stops, from what it stops at.
-use Rattle.std.specs.Prelude.{ℕ, List}
-use Rattle.explanations.specs.Refusal.{told}
-use Rattle.open_reasons.specs.Open.{open_text, reason_of}
+-- What more is told of why a subcommand stops, step by step: the very reason of the error. Where
+-- memory did not suffice to keep the reason, nothing is.
+use Rattle.std.specs.Prelude.{◌≡◌, ℕ, List, Option, Some, IfSome, Result, Ok, Err, unwrap_or}
+use Rattle.std.specs.Global.{Global}
+use Rattle.block_checker.specs.Explained.{Explains}
+use Rattle.cert_maker.specs.declared.errors.MakeError.{MakeError}
+use Rattle.cert_maker.specs.declared.errors.MakeError.TheVariants as make_error
+use Rattle.check_reasons.specs.Check.{IsListed, IsWanted}
+use Rattle.check_reasons.specs.declared.check.CheckReason.{CheckReason}
+use Rattle.explanations.specs.Certificate.{IsReason}
+use Rattle.explanations.specs.Image.{Tells}
+use Rattle.explanations.specs.Make.{IsWordReason, attach_reason, parameter_reason}
+use Rattle.explanations.specs.declared.make.MakeReason.{MakeReason}
+use Rattle.job_reasons.specs.Job.{IsJobReason}
+use Rattle.job_reasons.specs.declared.job.Command.{Command}
+use Rattle.open_reasons.specs.Open.{reason_of}
 use Rattle.region_mem.specs.declared.parameter.Param.{Param}
-use Rattle.sandbox_run.specs.Errors.{error_text}
-use Rattle.commands.specs.Words.{Argument, OpenError}
+use Rattle.vreg_groups.specs.declared.vector_length.Vlen.{Vlen}
+use Rattle.commands.specs.Accepted.{certificate_in}
+use Rattle.commands.specs.Words.{Argument, CertificateView, CheckError, Halt, ImageView, Stop}
+use Rattle.commands.specs.declared.halt.Halt.TheVariants as halt
 
--- what is told of why no run is opened
-abbrev pub open_lines : List Param → List Argument → ℕ → ℕ → OpenError → List ℕ
-open_lines params args bound max error =
-    told (error_text error) (open_text (reason_of params args bound max error))
+-- the step that fails first tells why
+abbrev pub ByStep : {A : Type 0} → Result A Stop → (Halt → Type 0) → (A → Halt → Type 0) → Halt
+    → Type 0
+ByStep (Err reason) fails later why = fails why
+ByStep (Ok a) fails later why = later a why
+
+-- ---- a job
+
+-- why a text is no job of a command
+abbrev pub ExplainsJob : Command → List ℕ → Halt → Type 0
+ExplainsJob command text (halt.Job reason) = IsJobReason command text (Some reason.value)
+ExplainsJob command text (halt.Parameters reason) = ⊥
+ExplainsJob command text halt.LargeFile = ⊥
+ExplainsJob command text other = Unit {0}
+
+-- ---- an image
+
+-- why a file is no image
+abbrev pub ExplainsImage : List ℕ → Halt → Type 0
+ExplainsImage file (halt.Image why) =
+    IfSome why.reason (λ kept. Tells file why.error kept.value)
+ExplainsImage file (halt.Attach why) = ⊥
+ExplainsImage file other = Unit {0}
+
+-- why the bytes of an image's note are no certificate
+abbrev pub ExplainsCertificate : Option (List ℕ) → Halt → Type 0
+ExplainsCertificate (Some bytes) (halt.Certificate why) =
+    IfSome why.reason (λ kept. IsReason bytes why.error kept.value)
+ExplainsCertificate bytes other = Unit {0}
+
+-- what is told of a check that is refused with an error: where it stopped, the word there, and what
+-- was wanted
+pub record IsCheckReason (image : ImageView) (certificate : CertificateView) (vlen : Vlen)
+    (error : CheckError) (told : CheckReason Global) : Type 0 where
+  pub fault : told.explanation.error ≡ error
+  pub stop : Explains image certificate told.explanation
+  pub listing : IsListed told.explanation.stop told.listing
+  pub wanted : IsWanted image certificate vlen told.explanation told.wanted
+
+-- why the check refuses an image with a certificate
+abbrev pub ExplainsCheck : ImageView → CertificateView → Vlen → Halt → Type 0
+ExplainsCheck image certificate vlen (halt.Check why) =
+    IfSome why.reason (λ kept. IsCheckReason image certificate vlen why.error kept.value)
+ExplainsCheck image certificate vlen other = Unit {0}
+
+-- why an image is not accepted at a length of vector registers, or else at its certificate's own
+abbrev pub ExplainsAccepted : Option Vlen → ImageView → Halt → Type 0
+ExplainsAccepted vlen image =
+    ByStep (certificate_in image.certificate) (ExplainsCertificate image.certificate)
+    (λ certificate. ExplainsCheck image certificate (unwrap_or vlen certificate.vlen))
+
+-- ---- a certificate that is made
+
+abbrev pub IsMakeReason : ImageView → MakeError → MakeReason → Type 0
+IsMakeReason image (make_error.NotALoopOfTheClass pc) told = IsWordReason image pc told
+IsMakeReason image make_error.NoMemory told = ⊥
+
+-- why there is no certificate of the loop in an image for these parameters
+abbrev pub ExplainsLoop : List Param → ImageView → Halt → Type 0
+ExplainsLoop params image (halt.Parameters reason) =
+    IfSome reason (λ kept. kept.value ≡ parameter_reason params)
+ExplainsLoop params image (halt.Make why) =
+    IfSome why.reason (λ kept. IsMakeReason image why.error kept.value)
+ExplainsLoop params image (halt.Job reason) = ⊥
+ExplainsLoop params image halt.LargeFile = ⊥
+ExplainsLoop params image other = Unit {0}
+
+-- why a file, whose image has this certificate, takes none of so many bytes
+abbrev pub ExplainsAttached : List ℕ → Option (List ℕ) → ℕ → Halt → Type 0
+ExplainsAttached file there size (halt.Attach why) =
+    IfSome why.reason (λ kept. kept.value ≡ attach_reason file there size why.error)
+ExplainsAttached file there size (halt.Image why) = ⊥
+ExplainsAttached file there size other = Unit {0}
+
+-- ---- a run
+
+-- why no run of these arguments is opened: of parameters that there can't be it is told that a file
+-- is too large
+abbrev pub ExplainsOpened : List Param → List Argument → ℕ → ℕ → Halt → Type 0
+ExplainsOpened params args bound max (halt.Open refusal) =
+    refusal.reason ≡ reason_of params args bound max refusal.error
+ExplainsOpened params args bound max (halt.Job reason) = ⊥
+ExplainsOpened params args bound max (halt.UntoldJob error) = ⊥
+ExplainsOpened params args bound max (halt.Parameters reason) = ⊥
+ExplainsOpened params args bound max other = Unit {0}

@@ -4,6 +4,7 @@ ghost use Rattle.block_checker.specs.Accepted.{Passes};
 ghost use Rattle.commands.specs.Accepted.{IsOrWant, accepted_of, certificate_in};
 ghost use Rattle.commands.specs.Halt.{bare};
 ghost use Rattle.commands.specs.Trial.{OrMemory};
+ghost use Rattle.commands.specs.Why.{ExplainsAccepted, ExplainsCertificate};
 
 use crate::halt::Halt;
 use crate::why::{bad_certificate, not_accepted};
@@ -15,7 +16,8 @@ use vreg_groups::Vlen;
 
 /// The certificate in an image's note.
 fn certificate_in<'a>(alloc: Global, image: &Image) -> Result<Certificate, Halt<'a>>
-    ensures { OrMemory (certificate_in image.now.certificate) (bare result) }
+    ensures answer { OrMemory (certificate_in image.now.certificate) (bare result) }
+    ensures told { IfErr result (ExplainsCertificate image.now.certificate) }
 {
     let Some(bytes) = image.certificate() else {
         return Err(Halt::NoCertificate);
@@ -34,6 +36,7 @@ pub fn accept<'a>(alloc: Global, image: Image, vlen: Option<Vlen>) -> Result<Acc
     ensures certificate { IfErr (certificate_in image.certificate)
         (λ reason. bare result ≡ Err reason) }
     ensures answer { IsOrWant (accepted_of vlen image) (bare result) }
+    ensures told { IfErr result (ExplainsAccepted vlen image) }
     ensures passes { IfOk result Passes }
 {
     let certificate = certificate_in(alloc, &image)?;

@@ -3,7 +3,7 @@ ghost use Rattle.std.specs.Prelude.{MatchResult, OnOk};
 ghost use Rattle.rv_listing.specs.Sinks.{IsPassedOn, Told};
 ghost use Rattle.cert_note.specs.Values.{budget_text, product_text};
 ghost use Rattle.commands.specs.Checks.{Checks, StopsCheck, bound_line, second_text};
-ghost use Rattle.commands.specs.Ending.{Ends, plain};
+ghost use Rattle.commands.specs.Ending.{Ends};
 ghost use Rattle.commands.specs.Files.{files_of};
 ghost use Rattle.commands.specs.Streams.{change, stream};
 
@@ -50,7 +50,7 @@ fn check_at<'a, S: Store, O: Stream>(
     ensures { let c = (change (S.held store.old) (S.held store.new)
         (stream (O.contents output.old) (O.failures output.old))
         (stream (O.contents output.new) (O.failures output.new))) in
-        MatchResult (plain result) (Checks (files_of c.was) path.entry.now c)
+        MatchResult result (Checks (files_of c.was) path.entry.now c)
         (StopsCheck (files_of c.was) c path.entry.now) }
 {
     let image = read_image(alloc, path, store)?;

@@ -1,5 +1,5 @@
 //! The files of a job: what is read before its run, and what is written after it.
-ghost use Rattle.std.specs.Prelude.{◌≡◌, MatchResult, Some, length, map, option_map};
+ghost use Rattle.std.specs.Prelude.{◌≡◌, IfErr, MatchResult, Some, length, map, option_map};
 ghost use Rattle.std.specs.Prelude.{true};
 ghost use Rattle.job_file.specs.Needs.{run_param_lent};
 ghost use Rattle.toml.specs.Parse.{parse_document};
@@ -7,9 +7,10 @@ ghost use Rattle.toml.specs.View.{table_view};
 ghost use Rattle.commands.specs.Accepted.{OrMemory};
 ghost use Rattle.commands.specs.Ending.{IsOfFile, stop_of_job};
 ghost use Rattle.commands.specs.Files.{ArePassed, AreWritten, IsImageAt, IsNoImageAt, IsNoTable};
-ghost use Rattle.commands.specs.Files.{IsNoTableAt, IsOfParam, IsOutWritten, IsPassed, IsTableAt};
+ghost use Rattle.commands.specs.Files.{IsJobAt, IsNoTableAt, IsOfParam, IsOutWritten, IsPassed};
 ghost use Rattle.commands.specs.Files.{IsUnpassed, IsWritten, files_of, image_in, out_file};
 ghost use Rattle.commands.specs.Halt.{bare};
+ghost use Rattle.commands.specs.Why.{ExplainsImage};
 
 use crate::halt::Halt;
 use crate::store::Store;
@@ -65,9 +66,10 @@ pub fn read_table<'a, S: Store>(
     command: Command,
     store: &mut S,
 ) -> Result<JobFile, Halt<'a>>
-    ensures table { MatchResult (bare result)
-        (λ file. IsTableAt (files_of (S.held store.old)) path.entry.now (table_view file.table))
-        (IsNoTableAt (files_of (S.held store.old)) path.entry.now) }
+    ensures table { MatchResult result
+        (λ file. IsJobAt (files_of (S.held store.old)) path.entry.now file.text.items
+        (table_view file.table))
+        (IsNoTableAt command (files_of (S.held store.old)) path.entry.now) }
     ensures files { S.held store.new ≡ S.held store.old }
 {
     let text = read(alloc, path, usize::MAX, store)?;
@@ -124,7 +126,7 @@ pub fn read_image<'a, S: Store>(
     path: &'a str,
     store: &mut S,
 ) -> Result<Image, Halt<'a>>
-    ensures image { MatchResult (bare result)
+    ensures image { MatchResult result
         (IsImageAt (files_of (S.held store.old)) path.entry.now)
         (IsNoImageAt (files_of (S.held store.old)) path.entry.now) }
     ensures files { S.held store.new ≡ S.held store.old }
@@ -135,7 +137,8 @@ pub fn read_image<'a, S: Store>(
 
 /// The image that a file spells.
 pub fn image_in<'a>(alloc: Global, file: &[u8]) -> Result<Image, Halt<'a>>
-    ensures { OrMemory (image_in file.now) (bare result) }
+    ensures image { OrMemory (image_in file.now) (bare result) }
+    ensures told { IfErr result (ExplainsImage file.now) }
 {
     match elf_image::read(alloc, file) {
         Ok(image) => Ok(image),

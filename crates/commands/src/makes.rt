@@ -1,14 +1,17 @@
 //! `make`: an image with the certificate that is made of its loop.
-ghost use Rattle.std.specs.Prelude.{◌≡◌, Err, IfErr, IfOk, MatchResult};
+ghost use Rattle.std.specs.Prelude.{◌≡◌, Err, IfErr, IfOk, MatchResult, length};
 ghost use Rattle.block_checker.specs.Accepted.{Passes};
+ghost use Rattle.cert_note.specs.Spelling.{spelling};
 ghost use Rattle.commands.specs.Accepted.{IsOrWant};
-ghost use Rattle.commands.specs.Ending.{Ends, plain};
+ghost use Rattle.commands.specs.Ending.{Ends};
 ghost use Rattle.commands.specs.Files.{OfTable, StopsOfTable, files_of, image_in};
 ghost use Rattle.commands.specs.Halt.{bare};
-ghost use Rattle.commands.specs.Makes.{AnswersBytes, Makes, StopsMake, accepted_in, bytes_of};
-ghost use Rattle.commands.specs.Makes.{certificate_for, made_of, with_certificate};
+ghost use Rattle.commands.specs.Makes.{AnswersBytes, ExplainsMade, ExplainsReadBack, Makes};
+ghost use Rattle.commands.specs.Makes.{StopsMake, accepted_in, bytes_of, certificate_for};
+ghost use Rattle.commands.specs.Makes.{made_of, with_certificate};
 ghost use Rattle.commands.specs.Trial.{OrMemory};
 ghost use Rattle.commands.specs.Streams.{Wrote, change, stream};
+ghost use Rattle.commands.specs.Why.{ExplainsAttached, ExplainsLoop};
 ghost use Rattle.toml.specs.View.{table_view};
 
 use crate::accepted::accept;
@@ -67,7 +70,7 @@ pub fn make_image<'a, S: Store, O: Stream, E: Sink>(
         Ends explain
         (OfTable (files_of c.was) paths.entry.job.now (λ table.
         Makes (files_of c.was) paths.entry.image.now paths.entry.out.now table c))
-        (StopsOfTable (files_of c.was) (Wrote c) paths.entry.job.now
+        (StopsOfTable Command.Make (files_of c.was) (Wrote c) paths.entry.job.now
         (StopsMake (files_of c.was) c paths.entry.image.now paths.entry.out.now))
         (stream (E.contents errors.old) (E.failures errors.old))
         (stream (E.contents errors.new) (E.failures errors.new)) result }
@@ -88,10 +91,10 @@ fn make_table<'a, S: Store, O: Stream>(
     ensures { let c = (change (S.held store.old) (S.held store.new)
         (stream (O.contents output.old) (O.failures output.old))
         (stream (O.contents output.new) (O.failures output.new))) in
-        MatchResult (plain result)
+        MatchResult result
         (Makes (files_of c.was) paths.entry.image.now paths.entry.out.now (table_view table.now) c)
         (StopsMake (files_of c.was) c paths.entry.image.now paths.entry.out.now
-        (table_view table.now)) }
+        text.now (table_view table.now)) }
 {
     let job = taken(alloc, make_job_in(table), text, Command::Make)?;
     let file = read_image_file(alloc, paths.image, store)?;
@@ -106,7 +109,8 @@ fn make_table<'a, S: Store, O: Stream>(
 
 /// The certificate that is made for a job of the loop at an image's entry.
 fn certificate_for<'a>(alloc: Global, job: &MakeJob, image: &Image) -> Result<Certificate, Halt<'a>>
-    ensures { OrMemory (certificate_for job.now image.now) (bare result) }
+    ensures answer { OrMemory (certificate_for job.now image.now) (bare result) }
+    ensures told { IfErr result (ExplainsLoop job.now.params image.now) }
 {
     let Some(parameters) = Parameters::new(job.params) else {
         return Err(Halt::Parameters(boxed(alloc, parameter_reason(&job.params))));
@@ -124,7 +128,9 @@ fn with_certificate<'a>(
     image: &Image,
     certificate: &Certificate,
 ) -> Result<Vec<u8>, Halt<'a>>
-    ensures { AnswersBytes (with_certificate file.now certificate.now) result }
+    ensures answer { AnswersBytes (with_certificate file.now certificate.now) result }
+    ensures told { IfErr result (ExplainsAttached file.now image.now.certificate
+        (length (spelling certificate.now))) }
 {
     let note = cert_note::write(alloc, certificate)?;
     match attach(alloc, file, note.as_slice()) {
@@ -137,6 +143,7 @@ fn with_certificate<'a>(
 fn made<'a>(alloc: Global, job: &MakeJob, file: &[u8]) -> Result<Vec<u8>, Halt<'a>>
     ensures image { IfErr (image_in file.now) (λ reason. bytes_of result ≡ Err reason) }
     ensures answer { AnswersBytes (made_of job.now file.now) result }
+    ensures told { IfErr result (ExplainsMade job.now file.now) }
 {
     let image = image_in(alloc, file)?;
     let certificate = certificate_for(alloc, job, &image)?;
@@ -147,6 +154,7 @@ fn made<'a>(alloc: Global, job: &MakeJob, file: &[u8]) -> Result<Vec<u8>, Halt<'
 fn read_back<'a>(alloc: Global, job: &MakeJob, bytes: &[u8]) -> Result<Accepted, Halt<'a>>
     ensures image { IfErr (image_in bytes.now) (λ reason. bare result ≡ Err reason) }
     ensures answer { IsOrWant (accepted_in job.now bytes.now) (bare result) }
+    ensures told { IfErr result (ExplainsReadBack job.now bytes.now) }
     ensures passes { IfOk result Passes }
 {
     let image = image_in(alloc, bytes)?;

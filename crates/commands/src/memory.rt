@@ -2,10 +2,20 @@
 ghost use Rattle.std.specs.Prelude.{◌≡◌, ◌⊎◌, ◌++◌, [], List, MatchResult, None, Some, IfOk, map};
 ghost use Rattle.std.specs.Prelude.{option_map, ℕ};
 ghost use Rattle.commands.specs.Corollary.{IsBoundOf, IsMadeOf, IsRunOf, IsTrialOf};
+ghost use Rattle.commands.specs.Checks.{Checks, StopsCheck};
 ghost use Rattle.commands.specs.Corollary.{IsWatchOf};
-ghost use Rattle.commands.specs.Files.{bytes_at, is_among, last_at};
+ghost use Rattle.commands.specs.Ending.{Ends};
+ghost use Rattle.commands.specs.Files.{OfTable, StopsOfTable, bytes_at, files_of, is_among};
+ghost use Rattle.commands.specs.Files.{last_at};
+ghost use Rattle.commands.specs.Makes.{Makes, StopsMake};
 ghost use Rattle.commands.specs.Memory.{entry_of, held_by, path_of, with_unread, with_unwritten};
-ghost use Rattle.commands.specs.Streams.{exchange, source, stream};
+ghost use Rattle.commands.specs.Mons.{BeforeAll, Mons, StopsMon};
+ghost use Rattle.commands.specs.Runs.{Runs, StopsRun};
+ghost use Rattle.commands.specs.Streams.{Wrote, change, exchange, source, stream};
+ghost use Rattle.commands.specs.Tries.{StopsTry, Tries};
+ghost use Rattle.commands.specs.Written.{Gains};
+ghost use Rattle.commands.specs.declared.store.TheConstants.{MOST_READS};
+ghost use Rattle.job_reasons.specs.declared.job.Command.TheVariants as command;
 ghost use Rattle.commands.specs.declared.stop.Status.TheVariants as status;
 
 use crate::checks::check_image;
@@ -168,84 +178,141 @@ impl Store for Memory {
     }
 }
 
-/// `check` over files in memory: what it prints is of the file at `path`, and no file changes.
+/// `check` over files in memory: what it prints is of the file at `path`, no file changes, and why it stops is told, in full
+/// where it is to `explain`.
 pub fn check_memory(
     alloc: Global,
     path: &str,
+    explain: bool,
     memory: &mut Memory,
     output: &mut Over<Vec<u8>>,
     errors: &mut Over<Vec<u8>>,
 ) -> Status
     ensures done { result ≡ status.Done → (file : List ℕ)
         × (bytes_at (held_by memory.old) path.now ≡ Some file)
-        × (line : List ℕ) × IsBoundOf file line × (output.new.writer.items ≡ output.old.writer.items ++ line) }
+        × (line : List ℕ) × IsBoundOf file line
+        × (output.new.writer.items ≡ output.old.writer.items ++ line) }
     ensures kept { held_by memory.new ≡ held_by memory.old }
+    ensures ends { let c = (change (Some (held_by memory.old)) (Some (held_by memory.new))
+        (stream (Some output.old.writer.items) output.old.failures)
+        (stream (Some output.new.writer.items) output.new.failures)) in
+        Ends explain (Checks (files_of c.was) path.now c) (StopsCheck (files_of c.was) c path.now)
+        (stream (Some errors.old.writer.items) errors.old.failures)
+        (stream (Some errors.new.writer.items) errors.new.failures) result }
 {
-    check_image(alloc, path, false, memory, output, errors)
+    check_image(alloc, path, explain, memory, output, errors)
 }
 
-/// `run` over files in memory, with the `registers` or without: what it prints, and which files there are afterwards.
+/// `run` over files in memory, with the `registers` or without: what it prints, which files there are afterwards, and why it
+/// stops.
 pub fn run_memory(
     alloc: Global,
     path: &str,
+    explain: bool,
     registers: bool,
     memory: &mut Memory,
     output: &mut Over<Vec<u8>>,
     errors: &mut Over<Vec<u8>>,
 ) -> Status
-    ensures { result ≡ status.Done → IsRunOf registers (held_by memory.old)
+    ensures done { result ≡ status.Done → IsRunOf registers (held_by memory.old)
         (held_by memory.new) path.now output.old.writer.items output.new.writer.items }
+    ensures ends { let c = (change (Some (held_by memory.old)) (Some (held_by memory.new))
+        (stream (Some output.old.writer.items) output.old.failures)
+        (stream (Some output.new.writer.items) output.new.failures)) in
+        Ends explain
+        (OfTable (files_of c.was) path.now (λ table. Runs (files_of c.was) registers table c))
+        (StopsOfTable command.Run (files_of c.was) (Wrote c) path.now
+        (StopsRun (files_of c.was) registers c))
+        (stream (Some errors.old.writer.items) errors.old.failures)
+        (stream (Some errors.new.writer.items) errors.new.failures) result }
 {
-    run_job(alloc, path, false, registers, memory, output, errors)
+    run_job(alloc, path, explain, registers, memory, output, errors)
 }
 
-/// `try` over files in memory, with the `registers` or without: what it prints, and which files there are afterwards.
+/// `try` over files in memory, with the `registers` or without: what it prints, which files there are afterwards, and why it
+/// stops.
 pub fn try_memory(
     alloc: Global,
     path: &str,
+    explain: bool,
     registers: bool,
     memory: &mut Memory,
     output: &mut Over<Vec<u8>>,
     errors: &mut Over<Vec<u8>>,
 ) -> Status
-    ensures { (result ≡ status.Done) ⊎ (result ≡ status.Stopped)
+    ensures done { (result ≡ status.Done) ⊎ (result ≡ status.Stopped)
         → IsTrialOf registers (held_by memory.old) (held_by memory.new) path.now
         output.old.writer.items output.new.writer.items result }
+    ensures ends { let c = (change (Some (held_by memory.old)) (Some (held_by memory.new))
+        (stream (Some output.old.writer.items) output.old.failures)
+        (stream (Some output.new.writer.items) output.new.failures)) in
+        Ends explain
+        (OfTable (files_of c.was) path.now (λ table. Tries (files_of c.was) registers table c))
+        (StopsOfTable command.Try (files_of c.was) (Wrote c) path.now
+        (StopsTry (files_of c.was) registers c))
+        (stream (Some errors.old.writer.items) errors.old.failures)
+        (stream (Some errors.new.writer.items) errors.new.failures) result }
 {
-    try_job(alloc, path, false, registers, memory, output, errors)
+    try_job(alloc, path, explain, registers, memory, output, errors)
 }
 
-/// `make` over files in memory: what it prints, and which file it wrote.
+/// `make` over files in memory: what it prints, which file it wrote, and why it stops.
 pub fn make_memory<'a>(
     alloc: Global,
     paths: MakePaths<'a>,
+    explain: bool,
     memory: &mut Memory,
     output: &mut Over<Vec<u8>>,
     errors: &mut Over<Vec<u8>>,
 ) -> Status
-    ensures { result ≡ status.Done → IsMadeOf (held_by memory.old) (held_by memory.new)
+    ensures done { result ≡ status.Done → IsMadeOf (held_by memory.old) (held_by memory.new)
         paths.entry.image.now paths.entry.job.now paths.entry.out.now
         output.old.writer.items output.new.writer.items }
+    ensures ends { let c = (change (Some (held_by memory.old)) (Some (held_by memory.new))
+        (stream (Some output.old.writer.items) output.old.failures)
+        (stream (Some output.new.writer.items) output.new.failures)) in
+        Ends explain
+        (OfTable (files_of c.was) paths.entry.job.now (λ table.
+        Makes (files_of c.was) paths.entry.image.now paths.entry.out.now table c))
+        (StopsOfTable command.Make (files_of c.was) (Wrote c) paths.entry.job.now
+        (StopsMake (files_of c.was) c paths.entry.image.now paths.entry.out.now))
+        (stream (Some errors.old.writer.items) errors.old.failures)
+        (stream (Some errors.new.writer.items) errors.new.failures) result }
 {
-    make_image(alloc, paths, false, memory, output, errors)
+    make_image(alloc, paths, explain, memory, output, errors)
 }
 
-/// `mon` over files in memory: what it answers to the lines of the input, and which files there are afterwards.
+/// `mon` over files in memory: what it answers to the lines of the input, which files there are afterwards, and why it stops.
 pub fn mon_memory<I: Source>(
     alloc: Global,
     path: &str,
+    explain: bool,
     memory: &mut Memory,
     input: &mut I,
     output: &mut Over<Vec<u8>>,
     errors: &mut Over<Vec<u8>>,
 ) -> Status
-    ensures { let e = (exchange
+    ensures done { let e = (exchange
         (source (I.remaining input.old) (I.reads input.old) (I.failures input.old))
         (source (I.remaining input.new) (I.reads input.new) (I.failures input.new))
         (stream (Some output.old.writer.items) output.old.failures)
         (stream (Some output.new.writer.items) output.new.failures)) in
         result ≡ status.Done
         → IsWatchOf (held_by memory.old) (held_by memory.new) path.now e }
+    ensures ends { let e = (exchange
+        (source (I.remaining input.old) (I.reads input.old) (I.failures input.old))
+        (source (I.remaining input.new) (I.reads input.new) (I.failures input.new))
+        (stream (Some output.old.writer.items) output.old.failures)
+        (stream (Some output.new.writer.items) output.new.failures)) in
+        let wrote = Gains (Some (held_by memory.old)) (Some (held_by memory.new)) in
+        Ends explain
+        (OfTable (files_of (Some (held_by memory.old))) path.now (λ table.
+        Mons (files_of (Some (held_by memory.old))) table e
+        (Some (held_by memory.old)) (Some (held_by memory.new))))
+        (StopsOfTable command.Mon (files_of (Some (held_by memory.old))) (BeforeAll e wrote)
+        path.now (StopsMon MOST_READS (files_of (Some (held_by memory.old))) e wrote))
+        (stream (Some errors.old.writer.items) errors.old.failures)
+        (stream (Some errors.new.writer.items) errors.new.failures) result }
 {
-    mon_job(alloc, path, false, memory, input, output, errors)
+    mon_job(alloc, path, explain, memory, input, output, errors)
 }

@@ -2,9 +2,9 @@
 ghost use Rattle.std.specs.Prelude.{◌≡◌, IfErr, MatchResult, OnOk};
 ghost use Rattle.toml.specs.View.{table_view};
 ghost use Rattle.vreg_groups.specs.VectorLength.{IsVlenb, vlenb_of};
-ghost use Rattle.commands.specs.Ending.{Ends, plain};
+ghost use Rattle.commands.specs.Ending.{Ends};
 ghost use Rattle.commands.specs.Files.{OfTable, StopsOfTable, files_of};
-ghost use Rattle.commands.specs.Halt.{bare, stop_of};
+ghost use Rattle.commands.specs.Halt.{stop_of};
 ghost use Rattle.commands.specs.Mons.{BeforeAll, IsStopped, IsUnanswered, Mons, StopsMon};
 ghost use Rattle.commands.specs.Mons.{StopsWatching};
 ghost use Rattle.commands.specs.Streams.{exchange, source, stream};
@@ -56,7 +56,7 @@ pub fn mon_job<S: Store, I: Source, O: Stream, E: Sink>(
         Ends explain
         (OfTable (files_of (S.held store.old)) path.now (λ table.
         Mons (files_of (S.held store.old)) table e (S.held store.old) (S.held store.new)))
-        (StopsOfTable (files_of (S.held store.old)) (BeforeAll e wrote) path.now
+        (StopsOfTable Command.Mon (files_of (S.held store.old)) (BeforeAll e wrote) path.now
         (StopsMon MOST_READS (files_of (S.held store.old)) e wrote))
         (stream (E.contents errors.old) (E.failures errors.old))
         (stream (E.contents errors.new) (E.failures errors.new)) result }
@@ -87,7 +87,7 @@ pub fn mon_job_within<S: Store, I: Source, O: Stream, E: Sink>(
         Ends explain
         (OfTable (files_of (S.held store.old)) path.now (λ table.
         Mons (files_of (S.held store.old)) table e (S.held store.old) (S.held store.new)))
-        (StopsOfTable (files_of (S.held store.old)) (BeforeAll e wrote) path.now
+        (StopsOfTable Command.Mon (files_of (S.held store.old)) (BeforeAll e wrote) path.now
         (StopsMon reads (files_of (S.held store.old)) e wrote))
         (stream (E.contents errors.old) (E.failures errors.old))
         (stream (E.contents errors.new) (E.failures errors.new)) result }
@@ -111,11 +111,11 @@ fn mon_table<'a, S: Store, I: Source, O: Stream>(
         (source (I.remaining input.new) (I.reads input.new) (I.failures input.new))
         (stream (O.contents output.old) (O.failures output.old))
         (stream (O.contents output.new) (O.failures output.new))) in
-        MatchResult (plain result)
+        MatchResult result
         (Mons (files_of (S.held store.old)) (table_view table.entry.now) e
         (S.held store.old) (S.held store.new))
         (StopsMon reads (files_of (S.held store.old)) e
-        (Gains (S.held store.old) (S.held store.new)) (table_view table.entry.now)) }
+        (Gains (S.held store.old) (S.held store.new)) text.now (table_view table.entry.now)) }
 {
     let Start { ready, args } = started(alloc, table, text, Command::Mon, store)?;
     let kept = mon_accepted(alloc, &ready, args, input, output, reads)?;
@@ -138,7 +138,7 @@ fn mon_accepted<'a, I: Source, O: Stream>(
         (source (I.remaining input.new) (I.reads input.new) (I.failures input.new))
         (stream (O.contents output.old) (O.failures output.old))
         (stream (O.contents output.new) (O.failures output.new))) in
-        MatchResult (bare result)
+        MatchResult result
         (λ kept. IsStopped (vlenb_of ready.now.job.vlen) ready.now.job.agnostic ready.now.job.max
         ready.now.accepted args.places e kept.places)
         (StopsWatching reads (vlenb_of ready.now.job.vlen) ready.now.job.max ready.now.accepted
@@ -193,7 +193,7 @@ fn mon_session<'a, const VLENB: usize, I: Source, O: Stream>(
         (source (I.remaining input.new) (I.reads input.new) (I.failures input.new))
         (stream (O.contents output.old) (O.failures output.old))
         (stream (O.contents output.new) (O.failures output.new))) in
-        MatchResult (bare result)
+        MatchResult result
         (λ kept. IsStopped VLENB ready.now.job.agnostic ready.now.job.max ready.now.accepted
         args.places e kept.places)
         (StopsWatching reads VLENB ready.now.job.max ready.now.accepted args.places e) }

@@ -1,12 +1,12 @@
 //! `run`: a job on an image that is accepted.
-ghost use Rattle.std.specs.Prelude.{◌≡◌, IfOk, MatchResult};
+ghost use Rattle.std.specs.Prelude.{◌≡◌, IfErr, IfOk, MatchResult};
 ghost use Rattle.job_file.specs.Needs.{run_job_lent};
 ghost use Rattle.toml.specs.View.{table_view};
 ghost use Rattle.vreg_groups.specs.VectorLength.{IsVlenb};
-ghost use Rattle.commands.specs.Ending.{Ends, plain};
+ghost use Rattle.commands.specs.Ending.{Ends};
 ghost use Rattle.commands.specs.Files.{OfTable, StopsOfTable, files_of};
 ghost use Rattle.commands.specs.Halt.{bare};
-ghost use Rattle.commands.specs.Runs.{Runs, StopsRun, run_of_job, session_of};
+ghost use Rattle.commands.specs.Runs.{ExplainsRun, Runs, StopsRun, run_of_job, session_of};
 ghost use Rattle.commands.specs.Streams.{Wrote, change, stream};
 ghost use Rattle.commands.specs.Trial.{OrMemory};
 ghost use Rattle.commands.specs.declared.trial.End.TheVariants.{Ended};
@@ -49,7 +49,8 @@ pub fn run_job<S: Store, O: Stream, E: Sink>(
         (stream (O.contents output.new) (O.failures output.new))) in
         Ends explain
         (OfTable (files_of c.was) path.now (λ table. Runs (files_of c.was) registers table c))
-        (StopsOfTable (files_of c.was) (Wrote c) path.now (StopsRun (files_of c.was) registers c))
+        (StopsOfTable Command.Run (files_of c.was) (Wrote c) path.now
+        (StopsRun (files_of c.was) registers c))
         (stream (E.contents errors.old) (E.failures errors.old))
         (stream (E.contents errors.new) (E.failures errors.new)) result }
 {
@@ -69,9 +70,9 @@ fn run_table<'a, S: Store, O: Stream>(
     ensures { let c = (change (S.held store.old) (S.held store.new)
         (stream (O.contents output.old) (O.failures output.old))
         (stream (O.contents output.new) (O.failures output.new))) in
-        MatchResult (plain result)
+        MatchResult result
         (Runs (files_of c.was) registers (table_view table.entry.now) c)
-        (StopsRun (files_of c.was) registers c (table_view table.entry.now)) }
+        (StopsRun (files_of c.was) registers c text.now (table_view table.entry.now)) }
 {
     let Start { ready, args } = started(alloc, table, text, Command::Run, store)?;
     let trial = run_accepted(alloc, &ready, args)?;
@@ -88,6 +89,7 @@ fn run_table<'a, S: Store, O: Stream>(
 fn run_accepted<'a>(alloc: Global, ready: &Ready<'_>, args: Args) -> Result<Trial, Halt<'a>>
     ensures answer { OrMemory (run_of_job (run_job_lent ready.now.job) ready.now.accepted
         args.places) (bare result) }
+    ensures told { IfErr result (ExplainsRun ready.now.job.max ready.now.accepted args.places) }
     ensures ended { IfOk result (λ trial. trial.end ≡ Ended) }
 {
     match ready.job.vlen {
@@ -105,6 +107,7 @@ fn run_session<'a, const VLENB: usize>(
     requires { IsVlenb VLENB }
     ensures answer { OrMemory (session_of VLENB ready.now.job.agnostic ready.now.job.max
         ready.now.accepted args.places) (bare result) }
+    ensures told { IfErr result (ExplainsRun ready.now.job.max ready.now.accepted args.places) }
     ensures ended { IfOk result (λ trial. trial.end ≡ Ended) }
 {
     let Ready { job, accepted } = ready;

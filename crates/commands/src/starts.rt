@@ -3,9 +3,10 @@ ghost use Rattle.std.specs.Prelude.{◌≡◌, MatchResult, Some};
 ghost use Rattle.job_file.specs.Needs.{run_job_lent};
 ghost use Rattle.toml.specs.View.{table_view};
 ghost use Rattle.commands.specs.Files.{files_of};
-ghost use Rattle.commands.specs.Halt.{bare};
+ghost use Rattle.commands.specs.Halt.{stop_of};
 ghost use Rattle.commands.specs.Starts.{IsStarted, IsUnstarted};
 ghost use Rattle.commands.specs.Steps.{IsUnasked};
+ghost use Rattle.commands.specs.Why.{ExplainsJob};
 
 use crate::accepted::accept;
 use crate::files::{read_args, read_image};
@@ -60,7 +61,8 @@ pub fn taken<'a, J>(
     text: &[u8],
     command: Command,
 ) -> Result<J, Halt<'a>>
-    ensures { MatchResult (bare result) (λ job. asked ≡ Some job) (IsUnasked asked) }
+    ensures { MatchResult result (λ job. asked ≡ Some job)
+        (λ why. IsUnasked asked (stop_of why) × ExplainsJob command text.now why) }
 {
     match asked {
         Some(job) => Ok(job),
@@ -77,10 +79,11 @@ pub fn started<'a, S: Store>(
     command: Command,
     store: &mut S,
 ) -> Result<Start<'a>, Halt<'a>>
-    ensures start { MatchResult (bare result)
+    ensures start { MatchResult result
         (λ start. IsStarted (files_of (S.held store.old)) (table_view table.entry.now)
         (run_job_lent start.ready.job) start.ready.accepted start.args.places)
-        (IsUnstarted (files_of (S.held store.old)) (table_view table.entry.now)) }
+        (IsUnstarted command (files_of (S.held store.old)) text.now
+        (table_view table.entry.now)) }
     ensures files { S.held store.new ≡ S.held store.old }
 {
     let job = taken(alloc, run_job_in(table), text, command)?;

@@ -3,7 +3,7 @@ ghost use Rattle.std.specs.Prelude.{◌≡◌, ◌++◌, IfErr, IfOk, IfSome, No
 ghost use Rattle.job_file.specs.Needs.{run_param_lent};
 ghost use Rattle.rv_listing.specs.Sinks.{IsPassedOn, Told};
 ghost use Rattle.commands.specs.Did.{did_of, place_line, place_text, status_with};
-ghost use Rattle.commands.specs.Ending.{plain, status_of_end};
+ghost use Rattle.commands.specs.Ending.{status_of_end};
 ghost use Rattle.commands.specs.Files.{IsUnfinished, files_of, outs_of};
 ghost use Rattle.commands.specs.Halt.{stop_of};
 ghost use Rattle.commands.specs.Streams.{Prints, change, stream};
@@ -189,19 +189,19 @@ pub fn finish<'a, S: Store, O: Stream>(
     output: &mut O,
 ) -> Result<Did, Halt<'a>>
     ensures did { IfOk result (λ did. did ≡ did_of trial.now.end place) }
-    ensures done { IfOk (plain result) (λ status. status ≡ status_of_end trial.now.end) }
-    ensures told { OnOk (plain result) (Prints
+    ensures told { OnOk result (Prints
         (stream (O.contents output.old) (O.failures output.old))
         (stream (O.contents output.new) (O.failures output.new))
         (line_of trial.now ++ shown.now)) }
-    ensures wrote { OnOk (plain result) (Gains (S.held store.old) (S.held store.new)
+    ensures wrote { OnOk result (Gains (S.held store.old) (S.held store.new)
         (outs_of (map run_param_lent params.now) trial.now.args.places)) }
     ensures passed { OnOk result (IsPassedOn (O.passed output.new) (O.contents output.new)) }
-    ensures unfinished { IfErr (plain result) (IsUnfinished (files_of (S.held store.old))
+    ensures unfinished { IfErr result (λ why. IsUnfinished (files_of (S.held store.old))
         (change (S.held store.old) (S.held store.new)
         (stream (O.contents output.old) (O.failures output.old))
         (stream (O.contents output.new) (O.failures output.new)))
-        (map run_param_lent params.now) trial.now.args.places (line_of trial.now ++ shown.now)) }
+        (map run_param_lent params.now) trial.now.args.places (line_of trial.now ++ shown.now)
+        (stop_of why)) }
 {
     write_outs(alloc, params, &trial.args.places, store)?;
     match trial.print(shown, output) {

@@ -1,15 +1,16 @@
 //! `try`: a job on any image, with every test at each step.
-ghost use Rattle.std.specs.Prelude.{◌≡◌, MatchResult, map};
+ghost use Rattle.std.specs.Prelude.{◌≡◌, IfErr, MatchResult, map};
 ghost use Rattle.job_file.specs.Needs.{run_param_lent, try_job_lent, try_param_lent};
 ghost use Rattle.toml.specs.View.{table_view};
 ghost use Rattle.vreg_groups.specs.VectorLength.{IsVlenb};
-ghost use Rattle.commands.specs.Ending.{Ends, plain};
+ghost use Rattle.commands.specs.Ending.{Ends};
 ghost use Rattle.commands.specs.Files.{OfTable, StopsOfTable, files_of};
 ghost use Rattle.commands.specs.Halt.{bare};
 ghost use Rattle.commands.specs.Streams.{Wrote, change, stream};
 ghost use Rattle.commands.specs.Trial.{OrMemory};
-ghost use Rattle.commands.specs.Tries.{StopsTry, Tries, param_for, params_for, passed_by};
-ghost use Rattle.commands.specs.Tries.{passed_size, run_of, trial_of};
+ghost use Rattle.commands.specs.Tries.{ExplainsTrial, StopsTry, Tries, param_for, params_for};
+ghost use Rattle.commands.specs.Tries.{passed_by, passed_size, run_of, trial_of};
+ghost use Rattle.commands.specs.Why.{ExplainsOpened};
 
 use crate::did::Did;
 use crate::files::{read_args, read_image};
@@ -51,7 +52,8 @@ pub fn try_job<S: Store, O: Stream, E: Sink>(
         (stream (O.contents output.new) (O.failures output.new))) in
         Ends explain
         (OfTable (files_of c.was) path.now (λ table. Tries (files_of c.was) registers table c))
-        (StopsOfTable (files_of c.was) (Wrote c) path.now (StopsTry (files_of c.was) registers c))
+        (StopsOfTable Command.Try (files_of c.was) (Wrote c) path.now
+        (StopsTry (files_of c.was) registers c))
         (stream (E.contents errors.old) (E.failures errors.old))
         (stream (E.contents errors.new) (E.failures errors.new)) result }
 {
@@ -72,9 +74,9 @@ fn try_table<'a, S: Store, O: Stream>(
     ensures { let c = (change (S.held store.old) (S.held store.new)
         (stream (O.contents output.old) (O.failures output.old))
         (stream (O.contents output.new) (O.failures output.new))) in
-        MatchResult (plain result)
+        MatchResult result
         (Tries (files_of c.was) registers (table_view table.entry.now) c)
-        (StopsTry (files_of c.was) registers c (table_view table.entry.now)) }
+        (StopsTry (files_of c.was) registers c text.now (table_view table.entry.now)) }
 {
     let job = taken(alloc, try_job_in(table), text, Command::Try)?;
     let image = read_image(alloc, job.image, store)?;
@@ -104,7 +106,9 @@ fn run_tried<'a>(
     image: &Image,
     args: Args,
 ) -> Result<Trial, Halt<'a>>
-    ensures { OrMemory (trial_of (try_job_lent job.now) image.now args.places) (bare result) }
+    ensures answer { OrMemory (trial_of (try_job_lent job.now) image.now args.places)
+        (bare result) }
+    ensures told { IfErr result (ExplainsTrial (try_job_lent job.now) args.places) }
 {
     let Some(parameters) = Parameters::new(params_for(&job.params, &args.places)) else {
         return Err(Halt::LargeFile);
@@ -162,8 +166,9 @@ fn run<'a, const VLENB: usize>(
     args: Args,
 ) -> Result<Trial, Halt<'a>>
     requires { IsVlenb VLENB }
-    ensures { OrMemory (run_of VLENB job.now.agnostic job.now.max
+    ensures answer { OrMemory (run_of VLENB job.now.agnostic job.now.max
         image.now args.places parameters.now) (bare result) }
+    ensures told { IfErr result (ExplainsOpened parameters.now args.places 0 job.now.max) }
 {
     match try_run::<VLENB>(alloc, image, parameters, args, job.agnostic, job.max) {
         Ok(Outcome::Ended(last)) => Ok(trial_at(End::Ended, last)),

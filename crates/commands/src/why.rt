@@ -1,12 +1,16 @@
 //! Why a subcommand stops, from what it stops at. Where memory ran out, nothing more is told.
-ghost use Rattle.std.specs.Prelude.{◌≡◌, ◌≢◌, IfSome};
-ghost use Rattle.block_checker.specs.Bound.{bound_of, scalar_of, scalars_of};
+ghost use Rattle.std.specs.Prelude.{◌≡◌, List, IfSome, Some};
+ghost use Rattle.block_checker.specs.Bound.{scalar_of, scalars_of};
 ghost use Rattle.block_checker.specs.Explained.{IsStopped};
 ghost use Rattle.commands.specs.Ending.{stop_at_file, stop_of_certificate, stop_of_check};
 ghost use Rattle.commands.specs.Ending.{stop_of_image, stop_of_job, stop_of_make, stop_of_open};
-ghost use Rattle.commands.specs.Halt.{error_of, halt_text, stop_of};
-ghost use Rattle.commands.specs.Why.{open_lines};
-ghost use Rattle.sandbox_run.specs.declared.outcome.OpenError.TheVariants.{NoMemory};
+ghost use Rattle.cert_note.specs.Reading.{IsRefusal};
+ghost use Rattle.commands.specs.Halt.{error_of, stop_of};
+ghost use Rattle.commands.specs.Runs.{ExplainsRun};
+ghost use Rattle.commands.specs.Why.{ExplainsAttached, ExplainsCertificate, ExplainsCheck};
+ghost use Rattle.commands.specs.Why.{ExplainsImage, ExplainsJob, ExplainsLoop, ExplainsOpened};
+ghost use Rattle.job_reasons.specs.Job.{IsJobReason};
+ghost use Rattle.region_mem.specs.declared.parameter.Param.{Param};
 
 use crate::halt::{Halt, error_of};
 use crate::reasoned::{Reasoned, boxed};
@@ -50,7 +54,8 @@ pub fn stop_at<'a>(
 
 /// A file is no image.
 pub fn bad_image<'a>(alloc: Global, file: &[u8], error: ElfError) -> Halt<'a>
-    ensures { stop_of result ≡ stop_of_image error }
+    ensures stop { stop_of result ≡ stop_of_image error }
+    ensures told { ExplainsImage file.now result }
 {
     if let ElfError::NoMemory = error {
         Halt::Memory
@@ -68,7 +73,8 @@ pub fn not_attached<'a>(
     size: usize,
     error: ElfError,
 ) -> Halt<'a>
-    ensures { stop_of result ≡ stop_of_image error }
+    ensures stop { stop_of result ≡ stop_of_image error }
+    ensures told { ExplainsAttached file.now image.now.certificate size result }
 {
     if let ElfError::NoMemory = error {
         Halt::Memory
@@ -80,7 +86,9 @@ pub fn not_attached<'a>(
 
 /// Bytes are no certificate.
 pub fn bad_certificate<'a>(alloc: Global, bytes: &[u8], refusal: CertRefusal) -> Halt<'a>
-    ensures { stop_of result ≡ stop_of_certificate refusal.error }
+    requires { IsRefusal bytes.now refusal }
+    ensures stop { stop_of result ≡ stop_of_certificate refusal.error }
+    ensures told { ExplainsCertificate (Some bytes.now) result }
 {
     let error = refusal.error;
     if let CertError::NoMemory = error {
@@ -95,7 +103,8 @@ pub fn bad_certificate<'a>(alloc: Global, bytes: &[u8], refusal: CertRefusal) ->
 pub fn not_accepted<'a>(alloc: Global, refused: &Refused, vlen: Vlen) -> Halt<'a>
     requires { IsStopped refused.now.image refused.now.certificate refused.now.error
         refused.now.stop }
-    ensures { stop_of result ≡ stop_of_check refused.now.error }
+    ensures stop { stop_of result ≡ stop_of_check refused.now.error }
+    ensures told { ExplainsCheck refused.now.image refused.now.certificate vlen result }
 {
     let error = refused.error;
     if let CheckError::NoMemory = error {
@@ -113,7 +122,9 @@ fn reason_for(
     command: Command,
     error: JobError,
 ) -> Option<Box<JobReason>>
-    ensures { IfSome result (λ reason. error_of reason.value ≡ error) }
+    ensures error { IfSome result (λ reason. error_of reason.value ≡ error) }
+    ensures told { IfSome result (λ reason.
+        IsJobReason command text.now (Some reason.value)) }
 {
     let reason = job_reason(alloc, text, command).unwrap_or(None)?;
     if error_of(&reason) == error {
@@ -125,7 +136,8 @@ fn reason_for(
 
 /// A text is no job of a command.
 pub fn bad_job<'a>(alloc: Global, text: &[u8], command: Command, error: JobError) -> Halt<'a>
-    ensures { stop_of result ≡ stop_of_job error }
+    ensures stop { stop_of result ≡ stop_of_job error }
+    ensures told { ExplainsJob command text.now result }
 {
     if let JobError::NoMemory = error {
         return Halt::Memory;
@@ -138,7 +150,9 @@ pub fn bad_job<'a>(alloc: Global, text: &[u8], command: Command, error: JobError
 
 /// No certificate is made of an image.
 pub fn not_made<'a>(alloc: Global, image: &Image, error: MakeError) -> Halt<'a>
-    ensures { stop_of result ≡ stop_of_make error }
+    ensures stop { stop_of result ≡ stop_of_make error }
+    // Whatever the parameters are.
+    ensures told { (params : List Param) → ExplainsLoop params image.now result }
 {
     match error {
         MakeError::NoMemory => Halt::Memory,
@@ -179,8 +193,7 @@ pub fn not_started<'a>(
     error: OpenError,
 ) -> Halt<'a>
     ensures stop { stop_of result ≡ stop_of_open error }
-    ensures told { error ≢ NoMemory
-        → halt_text result ≡ open_lines parameters.now args.now.places bound max error }
+    ensures told { ExplainsOpened parameters.now args.now.places bound max result }
 {
     if let OpenError::NoMemory = error {
         Halt::Memory
@@ -193,9 +206,7 @@ pub fn not_started<'a>(
 /// No run of an accepted image is opened.
 pub fn not_opened<'a>(accepted: &Accepted, args: &Args, max: u64, error: OpenError) -> Halt<'a>
     ensures stop { stop_of result ≡ stop_of_open error }
-    ensures told { error ≢ NoMemory
-        → halt_text result ≡ open_lines accepted.now.certificate.parameters args.now.places
-        (bound_of accepted.now (scalars_of args.now.places)) max error }
+    ensures told { ExplainsRun max accepted.now args.now.places result }
 {
     let bound = accepted.bound(&scalars(&args.places));
     not_started(accepted.parameters(), args, bound, max, error)

@@ -11,6 +11,13 @@ use std::alloc::Global;
 use std::io::ErrorKind;
 use std::process::Abort;
 
+/// What `check` tells of a file of three bytes, where it is to explain.
+const SHORT: &str = "refused: TooShort
+  the file is shorter than an ELF header
+  size of the file: 3
+  wanted: at least 52, an ELF header
+";
+
 /// What `try` tells of the run of one instruction, with the registers.
 const SHOWN: &str = "ended: 1 steps
 x00=00000000 x01=fffffff0 x02=30000000 x03=00000000
@@ -50,13 +57,22 @@ fn checks_runs_and_tries_files_in_memory(rt: HostRuntime) {
     let mut memory = files(rt, alloc);
     let (mut one, mut two, mut three) = (kept(alloc), kept(alloc), kept(alloc));
     let mut errors = kept(alloc);
-    let came = check_memory(alloc, "one.elf", &mut memory, &mut one, &mut errors);
+    let came = check_memory(alloc, "one.elf", false, &mut memory, &mut one, &mut errors);
     expect(rt, came, one, Status::Done, "accepted: bound 1 + 0 * x0\n");
-    let came = run_memory(alloc, "one.toml", false, &mut memory, &mut two, &mut errors);
+    let came = run_memory(
+        alloc,
+        "one.toml",
+        false,
+        false,
+        &mut memory,
+        &mut two,
+        &mut errors,
+    );
     expect(rt, came, two, Status::Done, "ended: 1 steps\n");
     let came = try_memory(
         alloc,
         "one.toml",
+        false,
         true,
         &mut memory,
         &mut three,
@@ -73,7 +89,7 @@ fn watches_a_run_of_files_in_memory(rt: HostRuntime) {
     let (mut output, mut errors) = (kept(alloc), kept(alloc));
     let mut input = Counted::new(b"c\nq\n".as_slice());
     let (out, err) = (&mut output, &mut errors);
-    let came = mon_memory(alloc, "one.toml", &mut memory, &mut input, out, err);
+    let came = mon_memory(alloc, "one.toml", false, &mut memory, &mut input, out, err);
     expect(rt, came, output, Status::Done, "ended step 1\n");
     assert!(rt; errors.into_inner().is_empty());
 }
@@ -88,10 +104,28 @@ fn makes_no_certificate_of_an_image_that_has_one(rt: HostRuntime) {
         job: "one.toml",
         out: "two.elf",
     };
-    let came = make_memory(alloc, paths, &mut memory, &mut output, &mut errors);
+    let came = make_memory(alloc, paths, false, &mut memory, &mut output, &mut errors);
     expect(rt, came, output, Status::Refused, "");
     assert!(rt; memory.get("two.elf").is_none());
     assert!(rt; memory.get("one.toml") == Some(JOB.as_bytes()));
+}
+
+#[test]
+fn explains_why_a_file_in_memory_is_no_image(rt: HostRuntime) {
+    let alloc = rt.alloc();
+    let mut memory = files(rt, alloc);
+    given!(rt; memory.write("short.elf", b"abc"));
+    let (mut output, mut errors) = (kept(alloc), kept(alloc));
+    let came = check_memory(
+        alloc,
+        "short.elf",
+        true,
+        &mut memory,
+        &mut output,
+        &mut errors,
+    );
+    expect(rt, came, output, Status::Refused, "");
+    assert!(rt; errors.into_inner().as_slice() == SHORT.as_bytes());
 }
 
 #[test]

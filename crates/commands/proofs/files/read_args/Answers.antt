@@ -1,5 +1,5 @@
 use Rattle.std.proofs.Common.{rules, ◌∙◌, arith, refl}
-use Rattle.commands.proofs.CommandLemmas.{handed_on}
+use Rattle.commands.proofs.CommandLemmas.{handed_plain}
 use Rattle.commands.specs.WrittenLemmas.{passed_now, unpassed}
 use Rattle.commands.proofs.files.read_args.Goals as goal
 
@@ -16,7 +16,7 @@ loop-place-preserved g c =
 
 pub returns-in_err-places-clause-passed : goal.returns-in_err-places-clause-passed
 returns-in_err-places-clause-passed g c =
-    handed_on _ _ _ _ c.from_residual.ensures.1 (unpassed (g.S.Store.held c.args.store.now) (g.S.Store.held c.loop-place.store) c.args.params.now c.loop-place.place _ c.loop-place.invariant.kept c.in_err-places.ensures.passed _ c.loop-place.invariant.passed)
+    handed_plain _ _ _ _ c.from_residual.ensures.1 (unpassed (g.S.Store.held c.args.store.now) (g.S.Store.held c.loop-place.store) c.args.params.now c.loop-place.place _ c.loop-place.invariant.kept c.in_err-places.ensures.passed _ c.loop-place.invariant.passed)
 
 pub returns-in_err-places-clause-files : goal.returns-in_err-places-clause-files
 returns-in_err-places-clause-files g c = c.in_err-places.ensures.files ∙ c.loop-place.invariant.kept

@@ -1,6 +1,5 @@
 use Rattle.std.proofs.Common.{rules, inl}
 use Rattle.commands.specs.Files.{files_of}
-use Rattle.commands.specs.Halt.{bare}
 use Rattle.commands.proofs.CommandLemmas.{handed_on, image_read}
 use Rattle.commands.proofs.files.read_image.Goals as goal
 
@@ -10,4 +9,4 @@ returns-in_err-bytes-clause-image g c =
 
 pub returns-clause-image : goal.returns-clause-image
 returns-clause-image g c =
-    image_read (files_of (g.S.Store.held c.args.store.now)) c.args.path.now c.in_ok-bytes.bytes.items c.as_slice.result.now (bare c.image_in.result) (search rules) c.in_ok-bytes.ensures.bytes c.image_in.ensures
+    image_read (files_of (g.S.Store.held c.args.store.now)) c.args.path.now c.in_ok-bytes.bytes.items c.as_slice.result.now c.image_in.result (search rules) c.in_ok-bytes.ensures.bytes c.image_in.ensures.image c.image_in.ensures.told

@@ -1,5 +1,4 @@
-use Rattle.std.proofs.Common.{inl, inr, subst, sym}
-use Rattle.commands.specs.Files.{IsNoTableAt, files_of}
+use Rattle.std.proofs.Common.{inl, inr}
 use Rattle.commands.proofs.CommandLemmas.{handed_on}
 use Rattle.commands.proofs.files.read_table.Goals as goal
 
@@ -9,9 +8,8 @@ returns-in_err-text-clause-table g c =
 
 pub returns-in-Ok-clause-table : goal.returns-in-Ok-clause-table
 returns-in-Ok-clause-table g c =
-    (c.in_ok-text.text.items, c.in_ok-text.ensures.bytes, rw (← c.as_slice.ensures.value) c.in-Ok.ensures)
+    (c.in_ok-text.ensures.bytes, rw (← c.as_slice.ensures.value) c.in-Ok.ensures)
 
 pub returns-clause-table : goal.returns-clause-table
 returns-clause-table g c =
-    subst (IsNoTableAt (files_of (g.S.Store.held c.args.store.now)) c.args.path.now) (sym c.bad_job.ensures)
-    (inr (c.in_ok-text.text.items, c.in_ok-text.ensures.bytes, rw (← c.as_slice.ensures.value) c.in-Err.ensures))
+    inr (c.in_ok-text.text.items, c.in_ok-text.ensures.bytes, rw (c.bad_job.ensures.stop, ← c.as_slice.ensures.value) c.in-Err.ensures, rw (← c.as_slice-in-Err.ensures.value) c.bad_job.ensures.told)

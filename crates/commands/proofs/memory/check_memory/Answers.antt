@@ -6,3 +6,6 @@ returns-clause-done c = check_done _ _ _ _ _ _ _ _ _ _ c.check_image.ensures
 
 pub returns-clause-kept : goal.returns-clause-kept
 returns-clause-kept c = check_kept _ _ _ _ _ _ _ _ _ _ c.check_image.ensures
+
+pub returns-clause-ends : goal.returns-clause-ends
+returns-clause-ends c = c.check_image.ensures

@@ -1,5 +1,8 @@
 use Rattle.commands.proofs.Corollaries.{make_done}
 use Rattle.commands.proofs.memory.make_memory.Goals as goal
 
-pub returns : goal.returns
-returns c = make_done _ _ _ _ _ _ _ _ _ _ _ _ c.make_image.ensures
+pub returns-clause-done : goal.returns-clause-done
+returns-clause-done c = make_done _ _ _ _ _ _ _ _ _ _ _ _ c.make_image.ensures
+
+pub returns-clause-ends : goal.returns-clause-ends
+returns-clause-ends c = c.make_image.ensures

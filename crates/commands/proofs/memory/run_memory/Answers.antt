@@ -1,5 +1,8 @@
 use Rattle.commands.proofs.Corollaries.{run_done}
 use Rattle.commands.proofs.memory.run_memory.Goals as goal
 
-pub returns : goal.returns
-returns c = run_done _ _ _ _ _ _ _ _ _ _ _ c.run_job.ensures
+pub returns-clause-done : goal.returns-clause-done
+returns-clause-done c = run_done _ _ _ _ _ _ _ _ _ _ _ c.run_job.ensures
+
+pub returns-clause-ends : goal.returns-clause-ends
+returns-clause-ends c = c.run_job.ensures

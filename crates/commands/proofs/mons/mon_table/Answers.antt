@@ -1,10 +1,11 @@
 use Rattle.std.proofs.Common.{inl, inr, refl}
 use Rattle.job_file.specs.Needs.{run_job_lent}
+use Rattle.job_reasons.specs.declared.job.Command.TheVariants as command
 use Rattle.commands.specs.Files.{files_of}
 use Rattle.commands.specs.Mons.{BeforeAll, StopsWatched}
 use Rattle.commands.specs.Streams.{exchange, source, stream}
 use Rattle.commands.specs.Written.{Gains}
-use Rattle.commands.proofs.CommandLemmas.{handed_over, stops_started, unstarted, unwritten_after}
+use Rattle.commands.proofs.CommandLemmas.{handed_on, stops_started, unstarted, unwritten_after}
 use Rattle.commands.specs.WrittenLemmas.{gains_after, nothing}
 use Rattle.commands.proofs.mons.mon_table.Goals as goal
 
@@ -13,14 +14,14 @@ returns-in_err-ready g c =
     let was = g.S.Store.held c.args.store.now in
     let e = (exchange (source (g.I.Source.remaining c.args.input.now) (g.I.Source.reads c.args.input.now) (g.I.Source.failures c.args.input.now)) (source (g.I.Source.remaining c.args.input.now) (g.I.Source.reads c.args.input.now) (g.I.Source.failures c.args.input.now)) (stream (g.O.Sink.contents c.args.output.now) (g.O.Sink.failures c.args.output.now)) (stream (g.O.Sink.contents c.args.output.now) (g.O.Sink.failures c.args.output.now))) in
     let wrote = Gains was (g.S.Store.held c.started.new.store) in
-    handed_over _ _ _ _ c.from_residual.ensures.1 (unstarted (files_of was) (BeforeAll e wrote) (StopsWatched c.args.reads (files_of was) e wrote) _ _ c.in_err-ready.ensures.start (nothing _ _ c.in_err-ready.ensures.files, (refl, refl)))
+    handed_on _ _ _ _ c.from_residual.ensures.1 (unstarted command.Mon (files_of was) (BeforeAll e wrote) (StopsWatched c.args.reads (files_of was) e wrote) _ _ _ c.in_err-ready.ensures.start (nothing _ _ c.in_err-ready.ensures.files, (refl, refl)))
 
 pub returns-in_err-kept : goal.returns-in_err-kept
 returns-in_err-kept g c =
     let was = g.S.Store.held c.args.store.now in
     let e = (exchange (source (g.I.Source.remaining c.args.input.now) (g.I.Source.reads c.args.input.now) (g.I.Source.failures c.args.input.now)) (source (g.I.Source.remaining c.mon_accepted.new.input) (g.I.Source.reads c.mon_accepted.new.input) (g.I.Source.failures c.mon_accepted.new.input)) (stream (g.O.Sink.contents c.args.output.now) (g.O.Sink.failures c.args.output.now)) (stream (g.O.Sink.contents c.mon_accepted.new.output) (g.O.Sink.failures c.mon_accepted.new.output))) in
     let wrote = Gains was (g.S.Store.held c.started.new.store) in
-    handed_over _ _ _ _ c.from_residual-in_err-kept.ensures.1 (stops_started (files_of was) (BeforeAll e wrote) (StopsWatched c.args.reads (files_of was) e wrote) _ _ _ _ _ c.in_ok-ready.ensures.start (inl (c.in_err-kept.ensures, nothing _ _ c.in_ok-ready.ensures.files)))
+    handed_on _ _ _ _ c.from_residual-in_err-kept.ensures.1 (stops_started command.Mon (files_of was) (BeforeAll e wrote) (StopsWatched c.args.reads (files_of was) e wrote) _ _ _ _ _ _ c.in_ok-ready.ensures.start (inl (c.in_err-kept.ensures, nothing _ _ c.in_ok-ready.ensures.files)))
 
 pub returns-in_err-write_outs : goal.returns-in_err-write_outs
 returns-in_err-write_outs g c =
@@ -28,7 +29,7 @@ returns-in_err-write_outs g c =
     let e = (exchange (source (g.I.Source.remaining c.args.input.now) (g.I.Source.reads c.args.input.now) (g.I.Source.failures c.args.input.now)) (source (g.I.Source.remaining c.mon_accepted.new.input) (g.I.Source.reads c.mon_accepted.new.input) (g.I.Source.failures c.mon_accepted.new.input)) (stream (g.O.Sink.contents c.args.output.now) (g.O.Sink.failures c.args.output.now)) (stream (g.O.Sink.contents c.mon_accepted.new.output) (g.O.Sink.failures c.mon_accepted.new.output))) in
     let wrote = Gains was (g.S.Store.held c.write_outs.new.store) in
     let un = unwritten_after was _ (g.S.Store.held c.write_outs.new.store) _ _ _ c.in_ok-ready.ensures.files c.in_err-write_outs.ensures in
-    handed_over _ _ _ _ c.from_residual-in_err-write_outs.ensures.1 (stops_started (files_of was) (BeforeAll e wrote) (StopsWatched c.args.reads (files_of was) e wrote) _ _ _ _ _ c.in_ok-ready.ensures.start (inr (c.in_ok-kept.kept.places, c.in_ok-kept.ensures, un)))
+    handed_on _ _ _ _ c.from_residual-in_err-write_outs.ensures.1 (stops_started command.Mon (files_of was) (BeforeAll e wrote) (StopsWatched c.args.reads (files_of was) e wrote) _ _ _ _ _ _ c.in_ok-ready.ensures.start (inr (c.in_ok-kept.kept.places, c.in_ok-kept.ensures, un)))
 
 pub returns : goal.returns
 returns g c = record {

@@ -1,6 +1,5 @@
 use Rattle.std.proofs.Common.{inl, inr, refl, Err, MatchResult, Option, subst}
 use Rattle.toml.specs.View.{table_view}
-use Rattle.commands.specs.Ending.{plain}
 use Rattle.commands.specs.Files.{files_of}
 use Rattle.commands.specs.Runs.{Runs, StopsRun}
 use Rattle.commands.specs.Streams.{change, stream}
@@ -14,11 +13,11 @@ returns-in-Ok g c =
     let has = g.S.Store.held c.run_table-done.new.store in
     let old = (stream (g.O.Sink.contents c.args.output.now) (g.O.Sink.failures c.args.output.now)) in
     let new = (stream (g.O.Sink.contents c.run_table-done.new.output) (g.O.Sink.failures c.run_table-done.new.output)) in
-    let came = subst (λ (h : Option Held). MatchResult (plain c.run_table-done.result)
+    let came = subst (λ (h : Option Held). MatchResult c.run_table-done.result
     (Runs (files_of h) c.args.registers (table_view c.in-Ok.file.table) (change h has old new))
-    (StopsRun (files_of h) c.args.registers (change h has old new) (table_view c.in-Ok.file.table)))
+    (StopsRun (files_of h) c.args.registers (change h has old new) c.as_slice-text.result.now (table_view c.in-Ok.file.table)))
     c.in-Ok.ensures.files c.run_table-done.ensures in
-    ends_by c.run_table-done.result _ _ c.ended.ensures.status c.ended.ensures.told came (λ s it. (table_view c.in-Ok.file.table, c.in-Ok.ensures.table, it)) (λ reason it. inr (table_view c.in-Ok.file.table, c.in-Ok.ensures.table, it))
+    ends_by c.run_table-done.result _ _ c.ended.ensures.status c.ended.ensures.told came (λ did it. (table_view c.in-Ok.file.table, (c.in-Ok.file.text.items, c.in-Ok.ensures.table.0, c.in-Ok.ensures.table.1), it)) (λ why it. inr (c.as_slice-text.result.now, table_view c.in-Ok.file.table, rw (c.as_slice-text.ensures.value) c.in-Ok.ensures.table, it))
 
 pub returns-in-Err : goal.returns-in-Err
 returns-in-Err g c =

@@ -10,7 +10,7 @@ use Rattle.commands.proofs.starts.started.Goals as goal
 
 pub returns-in_err-job-clause-start : goal.returns-in_err-job-clause-start
 returns-in_err-job-clause-start g c =
-    handed_on _ _ _ _ c.from_residual.ensures.1 (inl (unasked run_job_lent _ _ _ c.run_job_in.ensures c.in_err-job.ensures, tt))
+    handed_on _ _ _ _ c.from_residual.ensures.1 (inl ((unasked run_job_lent _ _ _ c.run_job_in.ensures c.in_err-job.ensures.0, c.in_err-job.ensures.1), tt))
 
 pub returns-in_err-args-clause-start : goal.returns-in_err-args-clause-start
 returns-in_err-args-clause-start g c =
@@ -22,4 +22,4 @@ returns-in_err-args-clause-start g c =
 pub returns-in_err-accepted-clause-start : goal.returns-in_err-accepted-clause-start
 returns-in_err-accepted-clause-start g c =
     let asked : run_job_in (table_view c.args.table.now) ≡ Some (run_job_lent c.in_ok-job.job) = asked_for run_job_lent _ _ _ c.run_job_in.ensures c.in_ok-job.ensures in
-    handed_on _ _ _ _ c.from_residual-in_err-accepted.ensures.1 (inr (run_job_lent c.in_ok-job.job, asked, inr (c.in_ok-image.image, c.in_ok-image.ensures.image, inl ((c.in_err-accepted.ensures.certificate, c.in_err-accepted.ensures.answer), tt))))
+    handed_on _ _ _ _ c.from_residual-in_err-accepted.ensures.1 (inr (run_job_lent c.in_ok-job.job, asked, inr (c.in_ok-image.image, c.in_ok-image.ensures.image, inl (((c.in_err-accepted.ensures.certificate, c.in_err-accepted.ensures.answer), c.in_err-accepted.ensures.told), tt))))

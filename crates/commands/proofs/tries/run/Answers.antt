@@ -1,5 +1,5 @@
 use Rattle.std.proofs.Common.{rules}
 use Rattle.commands.proofs.tries.run.Goals as goal
 
-pub returns-in-Ok-OutOfSteps : goal.returns-in-Ok-OutOfSteps
-returns-in-Ok-OutOfSteps g c = search rules
+pub returns-in-Ok-OutOfSteps-clause-answer : goal.returns-in-Ok-OutOfSteps-clause-answer
+returns-in-Ok-OutOfSteps-clause-answer g c = search rules

@@ -1,40 +1,40 @@
 use Rattle.std.proofs.Common.{rules, ◌≡◌, ◌∙◌, Some, inl, inr, map, refl}
 use Rattle.job_file.specs.Needs.{try_job_in, try_job_lent}
 use Rattle.toml.specs.View.{table_view}
-use Rattle.commands.specs.Ending.{plain}
 use Rattle.commands.specs.Streams.{stream}
-use Rattle.commands.specs.Tries.{passed_by, trial_of}
-use Rattle.commands.proofs.CommandLemmas.{asked_for, finished, handed_over, passed_after, unasked, unpassed_after, unshown}
+use Rattle.commands.specs.Tries.{ExplainsTrial, passed_by, trial_of}
+use Rattle.commands.proofs.CommandLemmas.{asked_for, finished, handed_on, passed_after, unasked, unpassed_after, unshown}
+use Rattle.commands.proofs.WhyLemmas.{memory_opened}
 use Rattle.commands.specs.WrittenLemmas.{gains_none, nothing}
 use Rattle.commands.proofs.tries.try_table.Goals as goal
 
 pub returns-in_err-job : goal.returns-in_err-job
 returns-in_err-job g c =
-    handed_over _ _ _ _ c.from_residual.ensures.1 (inl (unasked try_job_lent _ _ _ c.try_job_in.ensures c.in_err-job.ensures, (gains_none _, refl)))
+    handed_on _ _ _ _ c.from_residual.ensures.1 (inl ((unasked try_job_lent _ _ _ c.try_job_in.ensures c.in_err-job.ensures.0, c.in_err-job.ensures.1), (gains_none _, refl)))
 
 pub returns-in_err-image : goal.returns-in_err-image
 returns-in_err-image g c =
     let asked : try_job_in (table_view c.args.table.now) ≡ Some (try_job_lent c.in_ok-job.job) = asked_for try_job_lent _ _ _ c.try_job_in.ensures c.in_ok-job.ensures in
-    handed_over _ _ _ _ c.from_residual-in_err-image.ensures.1 (inr (try_job_lent c.in_ok-job.job, asked, inl (c.in_err-image.ensures.image, (nothing _ _ c.in_err-image.ensures.files, refl))))
+    handed_on _ _ _ _ c.from_residual-in_err-image.ensures.1 (inr (try_job_lent c.in_ok-job.job, asked, inl (c.in_err-image.ensures.image, (nothing _ _ c.in_err-image.ensures.files, refl))))
 
 pub returns-in_err-args : goal.returns-in_err-args
 returns-in_err-args g c =
     let asked : try_job_in (table_view c.args.table.now) ≡ Some (try_job_lent c.in_ok-job.job) = asked_for try_job_lent _ _ _ c.try_job_in.ensures c.in_ok-job.ensures in
     let unpassed = unpassed_after _ _ _ _ _ c.in_ok-image.ensures.files c.passed_params-passed.ensures c.in_err-args.ensures.passed in
-    handed_over _ _ _ _ c.from_residual-in_err-args.ensures.1 (inr (try_job_lent c.in_ok-job.job, asked, inr (c.in_ok-image.image, c.in_ok-image.ensures.image, inl (unpassed, (nothing _ _ (c.in_err-args.ensures.files ∙ c.in_ok-image.ensures.files), refl)))))
+    handed_on _ _ _ _ c.from_residual-in_err-args.ensures.1 (inr (try_job_lent c.in_ok-job.job, asked, inr (c.in_ok-image.image, c.in_ok-image.ensures.image, inl (unpassed, (nothing _ _ (c.in_err-args.ensures.files ∙ c.in_ok-image.ensures.files), refl)))))
 
 pub returns-in_err-trial : goal.returns-in_err-trial
 returns-in_err-trial g c =
     let asked : try_job_in (table_view c.args.table.now) ≡ Some (try_job_lent c.in_ok-job.job) = asked_for try_job_lent _ _ _ c.try_job_in.ensures c.in_ok-job.ensures in
     let passed = passed_after _ _ _ _ _ c.in_ok-image.ensures.files c.passed_params-passed.ensures c.in_ok-args.ensures.passed in
-    handed_over _ _ _ _ c.from_residual-in_err-trial.ensures.1 (inr (try_job_lent c.in_ok-job.job, asked, inr (c.in_ok-image.image, c.in_ok-image.ensures.image, inr (c.in_ok-args.args.places, passed, inl (c.in_err-trial.ensures, (nothing _ _ (c.in_ok-args.ensures.files ∙ c.in_ok-image.ensures.files), refl))))))
+    handed_on _ _ _ _ c.from_residual-in_err-trial.ensures.1 (inr (try_job_lent c.in_ok-job.job, asked, inr (c.in_ok-image.image, c.in_ok-image.ensures.image, inr (c.in_ok-args.args.places, passed, inl ((c.in_err-trial.ensures.answer, c.in_err-trial.ensures.told), (nothing _ _ (c.in_ok-args.ensures.files ∙ c.in_ok-image.ensures.files), refl))))))
 
 pub returns-in_err-shown : goal.returns-in_err-shown
 returns-in_err-shown g c =
     let asked : try_job_in (table_view c.args.table.now) ≡ Some (try_job_lent c.in_ok-job.job) = asked_for try_job_lent _ _ _ c.try_job_in.ensures c.in_ok-job.ensures in
     let passed = passed_after _ _ _ _ _ c.in_ok-image.ensures.files c.passed_params-passed.ensures c.in_ok-args.ensures.passed in
-    let comes = unshown _ _ _ c.in_ok-trial.ensures c.in_err-shown.ensures.memory in
-    handed_over _ _ _ _ c.from_residual-in_err-shown.ensures.1 (inr (try_job_lent c.in_ok-job.job, asked, inr (c.in_ok-image.image, c.in_ok-image.ensures.image, inr (c.in_ok-args.args.places, passed, inl (comes, (nothing _ _ (c.in_ok-args.ensures.files ∙ c.in_ok-image.ensures.files), refl))))))
+    let comes = unshown _ _ _ c.in_ok-trial.ensures.answer c.in_err-shown.ensures.memory in
+    handed_on _ _ _ _ c.from_residual-in_err-shown.ensures.1 (inr (try_job_lent c.in_ok-job.job, asked, inr (c.in_ok-image.image, c.in_ok-image.ensures.image, inr (c.in_ok-args.args.places, passed, inl ((comes, memory_opened _ _ _ _ _ c.in_err-shown.ensures.memory), (nothing _ _ (c.in_ok-args.ensures.files ∙ c.in_ok-image.ensures.files), refl))))))
 
 pub returns : goal.returns
 returns g c =
@@ -42,10 +42,10 @@ returns g c =
     let asked : try_job_in (table_view c.args.table.now) ≡ Some job = asked_for try_job_lent _ _ _ c.try_job_in.ensures c.in_ok-job.ensures in
     let passed = passed_after _ _ _ _ _ c.in_ok-image.ensures.files c.passed_params-passed.ensures c.in_ok-args.ensures.passed in
     let text : c.as_slice.result.now ≡ c.in_ok-shown.shown.items = search rules in
-    finished (stream (g.O.Sink.contents c.args.output.now) (g.O.Sink.failures c.args.output.now)) (stream (g.O.Sink.contents c.finish.new.output) (g.O.Sink.failures c.finish.new.output)) (g.S.Store.held c.args.store.now) _ _ _ (map passed_by job.params) (trial_of job c.in_ok-image.image c.in_ok-args.args.places) c.in_ok-trial.trial c.args.registers c.as_slice.result.now (plain c.finish.result) _ _
-    c.passed_params-passed.ensures c.in_ok-trial.ensures (c.in_ok-args.ensures.files ∙ c.in_ok-image.ensures.files) (text ∙ c.in_ok-shown.ensures.shown)
-    c.finish.ensures.done c.finish.ensures.told c.finish.ensures.wrote c.finish.ensures.unfinished
-    (λ status comes outs told done. record {
+    finished (stream (g.O.Sink.contents c.args.output.now) (g.O.Sink.failures c.args.output.now)) (stream (g.O.Sink.contents c.finish.new.output) (g.O.Sink.failures c.finish.new.output)) (g.S.Store.held c.args.store.now) _ _ _ (map passed_by job.params) (trial_of job c.in_ok-image.image c.in_ok-args.args.places) (ExplainsTrial job c.in_ok-args.args.places) c.in_ok-trial.trial c.place-place.result c.args.registers c.as_slice.result.now c.finish.result _ _
+    c.passed_params-passed.ensures c.in_ok-trial.ensures.answer (c.in_ok-args.ensures.files ∙ c.in_ok-image.ensures.files) (text ∙ c.in_ok-shown.ensures.shown)
+    c.finish.ensures.did c.finish.ensures.told c.finish.ensures.wrote c.finish.ensures.unfinished
+    (λ did comes outs told done. record {
       job = job;
       asked = asked;
       image = c.in_ok-image.image;
@@ -56,6 +56,8 @@ returns g c =
       comes = comes;
       wrote = outs;
       told = told;
+      place = c.place-place.result;
+      stands = c.place-place.ensures.place;
       done = done;
     })
-    (λ reason why. inr (job, asked, inr (c.in_ok-image.image, c.in_ok-image.ensures.image, inr (c.in_ok-args.args.places, passed, why))))
+    (λ why so. inr (job, asked, inr (c.in_ok-image.image, c.in_ok-image.ensures.image, inr (c.in_ok-args.args.places, passed, so))))
