@@ -13,7 +13,7 @@ ghost use Rattle.abs_state.specs.Branches.{without_end as without_end_of};
 ghost use Rattle.abs_state.specs.declared.branches.Relation.TheVariants.{Below};
 
 use crate::state::{Abstract, Way};
-use abs_domain::{NUMBERS, computed_range, copy_of, whole_atom};
+use abs_domain::{NUMBERS, Value, computed_range, copy_of, whole_atom};
 use cert_note::VectorFact;
 use linear_facts::{Atoms, Change, Form, Range};
 use rv_decode::{Condition, Reg};
@@ -217,16 +217,40 @@ impl<A: Allocator> Edge<'_, A> {
         state.words
     }
 
+    /// Bits 7 to 0 of vtype, if they are known.
+    pub fn vtype(&self) -> Option<u8>
+        ensures { result ≡ self.now.state.vtype }
+    {
+        let state = self.state;
+        state.vtype
+    }
+
+    /// The number, where the block began that the edge leaves, of the register that its budget names.
+    pub fn paid(&self) -> Value<'_>
+        ensures { result ≡ self.now.state.paid }
+    {
+        let state = self.state;
+        state.paid()
+    }
+
+    /// That of its second register.
+    pub fn second_paid(&self) -> Value<'_>
+        ensures { result ≡ self.now.state.second_paid }
+    {
+        let state = self.state;
+        state.second_paid()
+    }
+
     /// The facts on vector registers.
     pub fn groups(&self) -> &[VectorFact]
         ensures { result.now ≡ self.now.state.groups }
     {
         let state = self.state;
-        state.groups.as_slice()
+        state.groups()
     }
 
     /// What is known of the atoms on the edge.
-    pub(crate) fn table(&self) -> Atoms<'_>
+    pub fn table(&self) -> Atoms<'_>
         ensures { result ≡ table_on self.now }
     {
         let state = self.state;

@@ -348,15 +348,9 @@ fn is_enough<A: Allocator>(edge: &Edge<'_, A>, own: Budget, next: Option<Budget>
     let own = Total {
         constant: u64::from(own.constant),
         factor: own.factor,
-        number: Value {
-            form: &state.paid_form,
-            range: state.paid_range,
-        },
+        number: state.paid(),
         second_factor: own.second_factor,
-        second_number: Value {
-            form: &state.second_form,
-            range: state.second_range,
-        },
+        second_number: state.second_paid(),
     };
     let next = Total {
         constant: u64::from(state.words()) + u64::from(next.constant),

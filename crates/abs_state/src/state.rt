@@ -2,7 +2,7 @@
 ghost use Rattle.std.specs.Prelude.{◌≡◌};
 ghost use Rattle.abs_state.specs.declared.state.TheConstants.{MOST_WORDS};
 
-use abs_domain::{Numbers, Zone};
+use abs_domain::{Numbers, Value, Zone};
 use arrayvec::ArrayVec;
 use cert_note::{Budget, VectorFact};
 use linear_facts::{Form, Range};
@@ -91,6 +91,40 @@ impl<A: Allocator> Abstract<A> {
         ensures { result.now ≡ self.now.numbers }
     {
         &self.numbers
+    }
+
+    /// Bits 7 to 0 of vtype, if they are known.
+    pub fn vtype(&self) -> Option<u8>
+        ensures { result ≡ self.now.vtype }
+    {
+        self.vtype
+    }
+
+    /// The facts on vector registers.
+    pub fn groups(&self) -> &[VectorFact]
+        ensures { result.now ≡ self.now.groups }
+    {
+        self.groups.as_slice()
+    }
+
+    /// The number, where the block begins, of the register that its budget names.
+    pub fn paid(&self) -> Value<'_>
+        ensures { result ≡ self.now.paid }
+    {
+        Value {
+            form: &self.paid_form,
+            range: self.paid_range,
+        }
+    }
+
+    /// That of its second register.
+    pub fn second_paid(&self) -> Value<'_>
+        ensures { result ≡ self.now.second_paid }
+    {
+        Value {
+            form: &self.second_form,
+            range: self.second_range,
+        }
     }
 
     /// How many instructions have been taken since the block began.
