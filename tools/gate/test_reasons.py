@@ -23,7 +23,10 @@ class Reasons(unittest.TestCase):
         self.assertGreater(len(checks), 10)
         told = re.search(r'^### Standard error\n(.*?)^### ', (ROOT / 'docs/JOBS.md').read_text(), re.S | re.M)[1]
         told = set(re.findall(r'`(?:(?:refused|job): )?([A-Z][a-z]\w+)(?: at HHHHHHHH)?`', told))
-        wanted = {*names('IMAGES.md', 'Errors'), *names('CERTIFICATES.md', 'Errors'), *checks, *told} - {'NoMemory'}
+        run = re.search(r'^\| `trapped: NAME .*', (ROOT / 'docs/JOBS.md').read_text(), re.M)[0]
+        traps = set(re.findall(r'`([A-Z]\w+)`', run))
+        self.assertGreater(len(traps), 4)
+        wanted = {*names('IMAGES.md', 'Errors'), *names('CERTIFICATES.md', 'Errors'), *checks, *told, *traps, 'file', 'out of steps'} - {'NoMemory'}
         self.assertEqual(wanted - set(reasons.reasons()), set())
 
     def test_a_case_takes_its_parts(self):

@@ -1,7 +1,7 @@
 -- What is kept behind a word gives the way out that is refused there.
 use Rattle.std.proofs.Common.{◌≡◌, ℕ, sym, ap, ◌∙◌, subst, Some}
 use Rattle.std.specs.Option.{option_and_then}
-use Rattle.elf_image.specs.Image.{ImageView}
+use Rattle.elf_image.specs.Image.{ImageView, code_at}
 use Rattle.cert_note.specs.Certificate.{CertificateView}
 use Rattle.vreg_groups.specs.declared.vector_length.Vlen.{Vlen}
 use Rattle.abs_state.specs.State.{AbstractView}
@@ -23,14 +23,14 @@ behind_kept image certificate part.Entry pc a known = ap Some (sym known.1)
 behind_kept image certificate (part.Block start) pc a known = known.1
 
 edge_kept : (image : ImageView) (certificate : CertificateView) (e : CheckError) (p : Part) (pc : ℕ) (a : AbstractView)
-    → IsKept image certificate p pc kept.Behind a → edge_at image certificate e p pc ≡ edge_from certificate e p pc a
+    → IsKept image certificate p pc kept.Behind a → edge_at image certificate e p pc ≡ edge_from certificate e p pc (code_at pc image) a
 unfolding edge_at
 edge_kept image certificate e p pc a known =
-    ap (option_and_then (edge_from certificate e p pc)) (behind_kept image certificate p pc a known)
+    ap (option_and_then (edge_from certificate e p pc (code_at pc image))) (behind_kept image certificate p pc a known)
 
 pub behind_wanted : {A : Type 0} (image : ImageView) (certificate : CertificateView) (bits : Vlen) (e : CheckError) (stop : Stop A) (told : Wanted)
     → IsStop image certificate e stop.part stop.pc stop.kept stop.state → stop.kept ≡ kept.Behind
-    → told ≡ if_edge (edge_from certificate e stop.part stop.pc stop.state)
+    → told ≡ if_edge (edge_from certificate e stop.part stop.pc (code_at stop.pc image) stop.state)
     → IsWantedBy image certificate bits e (Some (spot_of image stop)) told
 behind_wanted image certificate bits e stop told stopped is edge =
     let known : IsKept image certificate stop.part stop.pc kept.Behind stop.state =

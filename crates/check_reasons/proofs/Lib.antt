@@ -1,1 +1,3 @@
+pub mod BufferPlaces
+pub mod GapLemmas
 pub mod KeptPlaces

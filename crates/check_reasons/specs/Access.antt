@@ -1,24 +1,34 @@
 -- Accesses that the check refused, and in which words they are told.
-use Rattle.std.specs.Prelude.{ℕ, ℤ, pos, ◌+◌, ◌-◌, ◌++◌, ◌==◌, Bool, true, false, List, [], codes, Option, Some, None, option_map, if◌then◌else◌}
+use Rattle.std.specs.Prelude.{ℕ, ℤ, pos, ◌+◌, ◌-◌, ◌++◌, ◌==◌, nat_lt, slice_index_or, Bool, true, false, List, [], ◌∷◌, codes, Option, Some, None, option_map, if◌then◌else◌}
 use Rattle.std.specs.Fmt.{decimal, signed_decimal}
-use Rattle.std.specs.List.{flat_map}
 use Rattle.linear_facts.specs.declared.ranges.Range.{Range}
 use Rattle.rv_decode.specs.declared.instructions.Insn.{Insn}
 use Rattle.rv_decode.specs.declared.instructions.Insn.TheVariants as insn
 use Rattle.rv_decode.specs.declared.instructions.ScalarInsn.{ScalarInsn}
 use Rattle.rv_decode.specs.declared.instructions.ScalarInsn.TheVariants as scalar
+use Rattle.rv_decode.specs.declared.instructions.Addressing.{Addressing}
+use Rattle.rv_decode.specs.declared.instructions.Addressing.TheVariants as place
+use Rattle.rv_decode.specs.declared.instructions.VMem.{VMem}
 use Rattle.rv_decode.specs.declared.instructions.Direction.{Direction}
 use Rattle.rv_decode.specs.declared.instructions.Direction.TheVariants as direction
+use Rattle.region_mem.specs.declared.parameter.Param.{Param}
+use Rattle.region_mem.specs.declared.parameter.Param.TheVariants as parameter
 use Rattle.scalar_core.specs.Arithmetic.{unsigned}
 use Rattle.scalar_core.specs.Step.{size_of_load, size_of_store}
-use Rattle.abs_domain.specs.Numbers.{NumbersView}
+use Rattle.abs_domain.specs.Numbers.{NumbersView, value_at}
+use Rattle.abs_domain.specs.declared.numbers.TheConstants.{VL}
 use Rattle.abs_domain.specs.declared.zones.Zone.{Zone}
 use Rattle.abs_transfer.specs.Scalar.{address_range}
 use Rattle.abs_transfer.specs.declared.accesses.Reach.{Reach}
 use Rattle.abs_state.specs.After.{reach_of}
 use Rattle.abs_state.specs.State.{AbstractView}
 use Rattle.explanations.specs.Address.{address_text}
+use Rattle.check_reasons.specs.Groups.{group_at, vector_text}
+use Rattle.check_reasons.specs.Spans.{span_text}
 use Rattle.check_reasons.specs.declared.access.Access.{Access}
+use Rattle.check_reasons.specs.declared.access.Apart.{Apart}
+use Rattle.check_reasons.specs.declared.access.Apart.TheVariants as apart
+use Rattle.check_reasons.specs.declared.access.Elements.{Elements}
 use Rattle.check_reasons.specs.declared.access.Operand.{Operand}
 
 abbrev pub operand : Bool → ℕ → ℤ → ℕ → Option Operand
@@ -79,10 +89,46 @@ reach_in (insn.VPerm i) a = None
 reach_in (insn.VReduce i) a = None
 reach_in (insn.VMove i) a = None
 
--- ---- the words
+-- how far the elements of a vector access lie apart, with what is known before it
+abbrev pub apart_in : AbstractView → Addressing → Apart
+apart_in a (place.Unit width masked) = apart.Close
+apart_in a (place.Strided width rs2 masked) = apart.Stride rs2 (value_at a.numbers rs2).range
+apart_in a (place.Indexed width vs2 ordered masked) = apart.Indices vs2 (group_at vs2 a.groups)
+apart_in a place.Mask = apart.Close
+apart_in a (place.Whole width count) = apart.Close
 
-abbrev pub span_text : Range → List ℕ
-span_text r = address_text r.lo ++ (codes "..=" ++ address_text r.hi)
+abbrev pub elements_on : AbstractView → VMem → Elements
+elements_on a i =
+    record { vl = (value_at a.numbers VL).range; apart = apart_in a i.place }
+
+-- the elements of a vector access
+unfoldable pub elements_in : Insn → AbstractView → Option Elements
+elements_in (insn.VMem i) a = Some (elements_on a i)
+elements_in (insn.Scalar i) a = None
+elements_in (insn.Csr i) a = None
+elements_in (insn.VSet i) a = None
+elements_in (insn.VArith i) a = None
+elements_in (insn.VMask i) a = None
+elements_in (insn.VPerm i) a = None
+elements_in (insn.VReduce i) a = None
+elements_in (insn.VMove i) a = None
+
+abbrev pub is_buffer : Param → Bool
+is_buffer parameter.None = false
+is_buffer (parameter.Scalar lo hi) = false
+is_buffer (parameter.Buffer mode size) = true
+
+-- the place of a parameter, if it asks for a buffer
+unfoldable pub buffer_place : ℕ → Param → List ℕ
+buffer_place place param = if is_buffer param then place ∷ [] else []
+
+-- the places of the parameters that ask for buffers, from one place on
+unfoldable pub buffer_places : ℕ → List Param → List ℕ
+buffer_places place [] = []
+buffer_places place (param ∷ others) =
+    buffer_place place param ++ buffer_places (place + 1) others
+
+-- ---- the words
 
 abbrev pub rights_in : Bool → Bool → List ℕ
 rights_in true true = codes "read and write"
@@ -93,12 +139,26 @@ rights_in false false = codes "neither read nor write"
 abbrev pub rights_text : Zone → List ℕ
 rights_text zone = rights_in zone.read zone.write
 
-abbrev pub zone_line : Zone → List ℕ
-zone_line zone = codes "    from " ++ (address_text zone.first ++ (codes " and below "
-    ++ (address_text zone.end ++ (codes ": " ++ (rights_text zone ++ codes "\n")))))
+-- the name of a zone: the segments come first, then the stack, and then the buffers of these places
+unfoldable pub zone_name : ℕ → List ℕ → ℕ → List ℕ
+zone_name segments buffers number =
+    if nat_lt number segments then codes "segment " ++ decimal number
+    else (if number == segments then codes "stack"
+    else codes "a" ++ decimal (slice_index_or buffers (number - (segments + 1)) 0))
 
-unfoldable pub zone_lines : List Zone → List ℕ
-zone_lines zones = flat_map zone_line zones
+abbrev pub zone_line : ℕ → List ℕ → ℕ → Zone → List ℕ
+zone_line segments buffers number zone = codes "    " ++ (zone_name segments buffers number
+    ++ (codes ", from " ++ (address_text zone.first ++ (codes " and below "
+    ++ (address_text zone.end ++ (codes ": " ++ (rights_text zone ++ codes "\n")))))))
+
+-- the zones from a number on
+unfoldable pub zones_from : ℕ → List ℕ → ℕ → List Zone → List ℕ
+zones_from segments buffers number [] = []
+zones_from segments buffers number (zone ∷ zones) =
+    zone_line segments buffers number zone ++ zones_from segments buffers (number + 1) zones
+
+abbrev pub zone_lines : ℕ → List ℕ → List Zone → List ℕ
+zone_lines segments buffers zones = zones_from segments buffers 0 zones
 
 abbrev pub base_line : ℕ → Range → List ℕ
 base_line base interval =
@@ -117,9 +177,24 @@ offset_line offset = codes "  offset from the base: " ++ (offset_text offset ++ 
 unfoldable pub size_lines : ℤ → ℕ → List ℕ
 size_lines offset size = if size == 0 then [] else bytes_line size ++ offset_line offset
 
+abbrev pub apart_line : Apart → List ℕ
+apart_line apart.Close = []
+apart_line (apart.Stride register range) = codes "  known: the stride, x"
+    ++ (decimal register ++ (codes ", in " ++ (span_text range ++ codes "\n")))
+apart_line (apart.Indices register None) =
+    codes "  known: nothing of the indices, v" ++ (decimal register ++ codes "\n")
+apart_line (apart.Indices register (Some fact)) =
+    codes "  known: the indices, " ++ (vector_text fact ++ codes "\n")
+
+abbrev pub elements_lines : Option Elements → List ℕ
+elements_lines None = []
+elements_lines (Some told) =
+    codes "  known: vl in " ++ (span_text told.vl ++ (codes "\n" ++ apart_line told.apart))
+
 -- the first byte and the last one
 abbrev pub reach_line : Option Reach → List ℕ
-reach_line None = codes "  known: nothing of where its bytes lie\n"
+reach_line None = codes "  known: no bounds of its bytes: the stride is not one number, "
+    ++ codes "or they reach below 0\n"
 reach_line (Some r) = codes "  known: its bytes in " ++ (address_text r.first
     ++ (codes "..=" ++ (address_text (r.end - 1) ++ codes "\n")))
 
@@ -131,9 +206,11 @@ access_wanted o =
 -- the lines of what is wanted of an access
 unfoldable pub wanted_lines : Access → List ℕ
 wanted_lines a =
-    reach_line a.reach ++ (access_wanted a.operand ++ zone_lines a.zones.items)
+    reach_line a.reach ++ (access_wanted a.operand
+    ++ zone_lines a.segments a.buffers.items a.zones.items)
 
 -- the lines of an access
 unfoldable pub access_text : Access → List ℕ
 access_text a = base_line a.operand.base a.interval
-    ++ (size_lines a.operand.offset a.operand.size ++ wanted_lines a)
+    ++ (size_lines a.operand.offset a.operand.size
+    ++ (elements_lines a.elements ++ wanted_lines a))

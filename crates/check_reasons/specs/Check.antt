@@ -1,11 +1,12 @@
 -- Why an image is refused with its certificate, and in which words it is told.
-use Rattle.std.specs.Prelude.{◌≡◌, ℕ, ◌++◌, List, [], codes, Option, Some, None, String, option_map, string_bytes}
+use Rattle.std.specs.Prelude.{◌≡◌, ℕ, ◌++◌, List, [], length, codes, Option, Some, None, String, option_map, string_bytes}
 use Rattle.std.specs.Fmt.{decimal}
 use Rattle.std.specs.Option.{option_and_then}
 use Rattle.std.specs.Str.Lossy.{utf8_lossy}
 use Rattle.cert_note.specs.Certificate.{CertificateView}
 use Rattle.elf_image.specs.Image.{ImageView, code_at}
 use Rattle.rv_decode.specs.Decode.{meaning_of}
+use Rattle.rv_decode.specs.declared.instructions.Insn.{Insn}
 use Rattle.rv_listing.specs.Listing.{listing_text}
 use Rattle.vreg_groups.specs.declared.vector_length.Vlen.{Vlen}
 use Rattle.vreg_groups.specs.declared.vector_length.Vlen.TheVariants as vlen
@@ -25,10 +26,12 @@ use Rattle.block_checker.specs.declared.refused.Part.{Part}
 use Rattle.block_checker.specs.declared.refused.Part.TheVariants as part
 use Rattle.block_checker.specs.declared.refused.Spot.{Spot}
 use Rattle.block_checker.specs.declared.refused.Stop.{Stop}
-use Rattle.check_reasons.specs.Access.{access_text, operand_of, reach_in}
+use Rattle.check_reasons.specs.Access.{access_text, buffer_places, elements_in, operand_of, reach_in}
 use Rattle.explanations.specs.Address.{address_text}
 use Rattle.explanations.specs.Words.{listing_line, word_line}
 use Rattle.check_reasons.specs.Edge.{edge_at, edge_text}
+use Rattle.check_reasons.specs.Illegal.{illegal_in, illegal_text}
+use Rattle.check_reasons.specs.declared.access.Elements.{Elements}
 use Rattle.check_reasons.specs.declared.access.Operand.{Operand}
 use Rattle.check_reasons.specs.declared.check.CheckReason.{CheckReason}
 use Rattle.check_reasons.specs.declared.edge.Edge.{Edge}
@@ -64,9 +67,15 @@ abbrev pub IsWordListed : ℕ → Option ℕ → Option (List ℕ) → Type 0
 IsWordListed pc None text = text ≡ None
 IsWordListed pc (Some word) text = text ≡ Some (utf8_lossy (listing_text pc word))
 
+-- On the way into the first block no word is at fault.
+abbrev pub word_in : Part → Option ℕ → Option ℕ
+word_in part.Entry word = None
+word_in (part.Block start) word = word
+
 abbrev pub IsListed : {A : Type 0} → Option Spot → Option (String A) → Type 0
 IsListed None text = text ≡ None
-IsListed (Some spot) text = IsWordListed spot.pc spot.word (option_map string_bytes text)
+IsListed (Some spot) text =
+    IsWordListed spot.pc (word_in spot.part spot.word) (option_map string_bytes text)
 
 -- the load or store that a word is, if it is one
 abbrev pub access_operand : Option ℕ → Option Operand
@@ -78,28 +87,44 @@ access_reach word before =
     option_and_then (λ insn. option_and_then (reach_in insn) before)
     (option_and_then meaning_of word)
 
+-- how its elements lie, if it is a vector instruction
+abbrev pub access_elements : Option ℕ → Option AbstractView → Option Elements
+access_elements word before =
+    option_and_then (λ insn. option_and_then (elements_in insn) before)
+    (option_and_then meaning_of word)
+
 -- what is known of a register
 abbrev pub interval_in : ℕ → Option AbstractView → Option Range
 interval_in r before = option_map (λ a. (value_at a.numbers r).range) before
 
--- What is told of a load or store: what is known of its base register, where its bytes may
--- lie, and all zones.
+-- What is told of a load or store: what is known of its base register, how the elements of a
+-- vector instruction lie, where its bytes may lie, and all zones.
 abbrev pub IsAccessOf : ImageView → CertificateView → Option ℕ → Option AbstractView
     → Option Operand → Wanted → Type 0
 IsAccessOf image certificate word before None told = told ≡ wanted.Plain
 IsAccessOf image certificate word before (Some o) (wanted.Access a) =
     (a.operand ≡ o) × (interval_in o.base before ≡ Some a.interval)
+    × (a.elements ≡ access_elements word before)
     × (a.reach ≡ access_reach word before)
     × (a.zones.items ≡ zones_of image certificate.parameters)
+    × (a.segments ≡ length image.segments)
+    × (a.buffers.items ≡ buffer_places 0 certificate.parameters)
 IsAccessOf image certificate word before (Some o) wanted.Plain = ⊥
 IsAccessOf image certificate word before (Some o) (wanted.Length stated bits) = ⊥
 IsAccessOf image certificate word before (Some o) (wanted.Entry entry) = ⊥
 IsAccessOf image certificate word before (Some o) (wanted.Edge edge) = ⊥
+IsAccessOf image certificate word before (Some o) (wanted.Illegal told) = ⊥
 
 abbrev pub IsAccess : ImageView → CertificateView → Option ℕ → Option AbstractView → Wanted
     → Type 0
 IsAccess image certificate word before told =
     IsAccessOf image certificate word before (access_operand word) told
+
+-- what is told of a word that is not legal, if it means an instruction
+abbrev pub illegal_at : Option Insn → Option AbstractView → Wanted
+illegal_at (Some insn) (Some a) = wanted.Illegal (illegal_in a.vtype insn)
+illegal_at (Some insn) None = wanted.Plain
+illegal_at None before = wanted.Plain
 
 -- what is wanted where no way out is refused, by the word and what is known before it
 abbrev pub IsWantedHere : ImageView → CertificateView → Vlen → CheckError → Option ℕ
@@ -113,7 +138,8 @@ IsWantedHere image certificate bits (error.AccessNotProved pc) word before told 
 IsWantedHere image certificate bits (error.ReadOnly pc) word before told =
     IsAccess image certificate word before told
 IsWantedHere image certificate bits (error.NotCode pc) word before told = told ≡ wanted.Plain
-IsWantedHere image certificate bits (error.IllegalWord pc) word before told = told ≡ wanted.Plain
+IsWantedHere image certificate bits (error.IllegalWord pc) word before told =
+    told ≡ illegal_at (option_and_then meaning_of word) before
 IsWantedHere image certificate bits (error.VtypeUnknown pc) word before told = told ≡ wanted.Plain
 IsWantedHere image certificate bits (error.TargetNotABlock pc) word before told =
     told ≡ wanted.Plain
@@ -158,33 +184,46 @@ IsWanted image certificate bits e told = IsWantedBy image certificate bits e.err
 
 -- ---- the words
 
-abbrev pub part_line : Part → List ℕ
-part_line part.Entry = codes "  stopped on the way into the first block\n"
-part_line (part.Block start) =
-    codes "  stopped in the block at " ++ (address_text start ++ codes "\n")
+-- the part of the check, and the word in a block
+abbrev pub part_lines : Part → ℕ → Option ℕ → List ℕ
+part_lines part.Entry pc word = codes "  stopped on the way into the first block\n"
+part_lines (part.Block start) pc word = codes "  stopped in the block at "
+    ++ (address_text start ++ (codes "\n" ++ word_line pc word))
 
 unfoldable pub stop_text : Option Spot → List ℕ
 stop_text None = []
-stop_text (Some stop) = part_line stop.part ++ word_line stop.pc stop.word
+stop_text (Some stop) = part_lines stop.part stop.pc stop.word
 
-abbrev pub rule : CheckError → List ℕ
-rule error.WrongVlen = []
-rule error.NoEntryBlock = []
-rule (error.NotCode pc) = codes "  wanted: a word in one segment that can be executed\n"
-rule (error.IllegalWord pc) = codes "  wanted: an instruction that is legal there\n"
-rule (error.VtypeUnknown pc) = codes "  wanted: a vector type that is known there\n"
-rule (error.AccessNotProved pc) = []
-rule (error.ReadOnly pc) = []
-rule (error.TargetNotABlock pc) = codes "  wanted: a block where the word leads, or the exit\n"
-rule (error.IntervalNotProved pc) = codes "  wanted: the intervals of the block entered\n"
-rule (error.EqualityNotProved pc) = codes "  wanted: the equalities of the block entered\n"
-rule (error.OrderNotProved pc) = codes "  wanted: the orders of the block entered\n"
-rule (error.VectorFactNotProved pc) = codes "  wanted: the vector facts of the block entered\n"
-rule (error.BudgetNotProved pc) =
+-- a vector type is wanted by the word, or by the block that a way out enters
+abbrev pub vtype_rule : Kept → List ℕ
+vtype_rule kept.Behind = codes "  wanted: the vector type of the block entered\n"
+vtype_rule kept.Before = codes "  wanted: a vector type that is known there\n"
+vtype_rule kept.End = codes "  wanted: a vector type that is known there\n"
+
+abbrev pub kept_of : Option Spot → Kept
+kept_of None = kept.Before
+kept_of (Some stop) = stop.kept
+
+-- what is wanted by the error, where a stop keeps this
+abbrev pub rule : Kept → CheckError → List ℕ
+rule at error.WrongVlen = []
+rule at error.NoEntryBlock = []
+rule at (error.NotCode pc) = codes "  wanted: a word in one segment that can be executed\n"
+rule at (error.IllegalWord pc) = codes "  wanted: an instruction that is legal there\n"
+rule at (error.VtypeUnknown pc) = vtype_rule at
+rule at (error.AccessNotProved pc) = []
+rule at (error.ReadOnly pc) = []
+rule at (error.TargetNotABlock pc) = codes "  wanted: a block where the word leads, or the exit\n"
+rule at (error.IntervalNotProved pc) = codes "  wanted: the intervals of the block entered\n"
+rule at (error.EqualityNotProved pc) =
+    codes "  wanted: the equalities of the block entered: the sums have to be the same\n"
+rule at (error.OrderNotProved pc) = codes "  wanted: the orders of the block entered\n"
+rule at (error.VectorFactNotProved pc) = codes "  wanted: the vector facts of the block entered\n"
+rule at (error.BudgetNotProved pc) =
     codes "  wanted: a budget for these words and the block entered\n"
-rule (error.BlockTooLong pc) =
+rule at (error.BlockTooLong pc) =
     codes "  wanted: at most " ++ (decimal MOST_WORDS ++ codes " words in a block\n")
-rule error.NoMemory = []
+rule at error.NoMemory = []
 
 abbrev pub bits_text : Vlen → List ℕ
 bits_text vlen.V128 = codes "128"
@@ -199,8 +238,9 @@ wanted_text (wanted.Entry entry) =
     codes "  wanted: a block at the entry, " ++ (address_text entry ++ codes "\n")
 wanted_text (wanted.Access access) = access_text access
 wanted_text (wanted.Edge edge) = edge_text edge
+wanted_text (wanted.Illegal told) = illegal_text told
 
 -- the lines of a reason
 unfoldable pub check_text : {A : Type 0} → CheckReason A → List ℕ
 check_text r = stop_text r.explanation.stop ++ (listing_line r.listing
-    ++ (rule r.explanation.error ++ wanted_text r.wanted))
+    ++ (rule (kept_of r.explanation.stop) r.explanation.error ++ wanted_text r.wanted))

@@ -1,24 +1,35 @@
 -- The way out of a word that the check refused, and in which words it is told.
-use Rattle.std.specs.Prelude.{◌==◌, ℕ, ◌++◌, List, [], codes, Option, Some, None, option_map, if◌then◌else◌}
+use Rattle.std.specs.Prelude.{Bool, true, false, ◌&&◌, ◌==◌, ℕ, ◌++◌, List, [], codes, Option, Some, None, is_some, option_map, if◌then◌else◌}
 use Rattle.std.specs.Fmt.{decimal}
 use Rattle.std.specs.List.{slice_get}
-use Rattle.std.specs.Option.{option_and_then}
+use Rattle.std.specs.Option.{option_and_then, option_map_or}
 use Rattle.cert_note.specs.Certificate.{CertificateView}
 use Rattle.cert_note.specs.declared.values.Block.{Block}
 use Rattle.cert_note.specs.declared.values.Budget.{Budget}
-use Rattle.elf_image.specs.Image.{ImageView}
+use Rattle.elf_image.specs.Image.{ImageView, code_at}
+use Rattle.rv_decode.specs.Decode.{meaning_of}
+use Rattle.rv_decode.specs.declared.instructions.Insn.{Insn}
+use Rattle.rv_decode.specs.declared.instructions.Insn.TheVariants as insn
+use Rattle.rv_decode.specs.declared.instructions.ScalarInsn.{ScalarInsn}
+use Rattle.rv_decode.specs.declared.instructions.ScalarInsn.TheVariants as scalar
 use Rattle.scalar_core.specs.Hart.{exit}
-use Rattle.abs_state.specs.Branches.{EdgeView}
+use Rattle.abs_state.specs.Branches.{EdgeView, value_on}
+use Rattle.abs_state.specs.Edges.{no_budget}
 use Rattle.abs_state.specs.State.{AbstractView}
 use Rattle.block_checker.specs.declared.errors.CheckError.{CheckError}
+use Rattle.block_checker.specs.declared.errors.CheckError.TheVariants as error
 use Rattle.block_checker.specs.declared.refused.Part.{Part}
 use Rattle.block_checker.specs.declared.refused.Part.TheVariants as part
 use Rattle.block_checker.specs.Explained.{behind_in, place_in, refused_edge}
 use Rattle.explanations.specs.Address.{address_text}
-use Rattle.check_reasons.specs.Unshown.{unshown_of, unshown_text}
+use Rattle.check_reasons.specs.Gaps.{gap_of, gap_text}
+use Rattle.check_reasons.specs.Sums.{times_text}
+use Rattle.check_reasons.specs.Unshown.{range_line, unshown_of, unshown_text}
 use Rattle.check_reasons.specs.declared.edge.Edge.{Edge}
 use Rattle.check_reasons.specs.declared.edge.Entered.{Entered}
 use Rattle.check_reasons.specs.declared.edge.Left.{Left}
+use Rattle.check_reasons.specs.declared.edge.Source.{Source}
+use Rattle.check_reasons.specs.declared.gaps.Gap.{Gap}
 
 -- ---- what is told
 
@@ -57,37 +68,116 @@ entered_of certificate error own e =
 abbrev pub budget_of : Option Left → Option Budget
 budget_of left = option_map (λ block. block.budget) left
 
--- what is told of an edge out of a part of the check, which has this error
-unfoldable pub edge_told : CertificateView → CheckError → Part → EdgeView → Edge
-edge_told certificate error part e = record {
+-- a jump by a register that it does not set itself
+abbrev pub jump_in : ScalarInsn → Option ℕ
+jump_in (scalar.Jalr rd rs1 offset) = if rd == rs1 then None else Some rs1
+jump_in (scalar.Jal rd offset) = None
+jump_in (scalar.Branch condition rs1 rs2 offset) = None
+jump_in (scalar.Load kind rd rs1 offset) = None
+jump_in (scalar.Store size rs1 rs2 offset) = None
+jump_in (scalar.Lui rd imm) = None
+jump_in (scalar.Auipc rd imm) = None
+jump_in (scalar.Immediate op rd rs1 imm) = None
+jump_in (scalar.ShiftImmediate op rd rs1 amount) = None
+jump_in (scalar.Register op rd rs1 rs2) = None
+jump_in scalar.Fence = None
+jump_in scalar.Ecall = None
+
+abbrev pub jump_of : Insn → Option ℕ
+jump_of (insn.Scalar i) = jump_in i
+jump_of (insn.VMem i) = None
+jump_of (insn.Csr i) = None
+jump_of (insn.VSet i) = None
+jump_of (insn.VArith i) = None
+jump_of (insn.VMask i) = None
+jump_of (insn.VPerm i) = None
+jump_of (insn.VReduce i) = None
+jump_of (insn.VMove i) = None
+
+-- the register by which a word jumps
+unfoldable pub jump_register : Option ℕ → Option ℕ
+jump_register word = option_and_then jump_of (option_and_then meaning_of word)
+
+abbrev pub source_on : EdgeView → ℕ → Source
+source_on e register = record { register = register; range = (value_on e register).range }
+
+-- what is known of the register by which a word leads to an address that is not known
+unfoldable pub source_of : Option ℕ → EdgeView → Option Source
+source_of word e =
+    if is_some e.target then None else option_map (source_on e) (jump_register word)
+
+abbrev pub is_of_budget : CheckError → Bool
+is_of_budget (error.BudgetNotProved pc) = true
+is_of_budget error.WrongVlen = false
+is_of_budget error.NoEntryBlock = false
+is_of_budget (error.NotCode pc) = false
+is_of_budget (error.IllegalWord pc) = false
+is_of_budget (error.VtypeUnknown pc) = false
+is_of_budget (error.AccessNotProved pc) = false
+is_of_budget (error.ReadOnly pc) = false
+is_of_budget (error.TargetNotABlock pc) = false
+is_of_budget (error.IntervalNotProved pc) = false
+is_of_budget (error.EqualityNotProved pc) = false
+is_of_budget (error.OrderNotProved pc) = false
+is_of_budget (error.VectorFactNotProved pc) = false
+is_of_budget (error.BlockTooLong pc) = false
+is_of_budget error.NoMemory = false
+
+abbrev pub is_end : EdgeView → Bool
+is_end e = option_map_or (λ target. target == exit) e.target false
+
+-- what a budget lacks on an edge to the end of the run
+unfoldable pub end_of : CheckError → Option Budget → EdgeView → Option Gap
+end_of error own e =
+    if is_of_budget error && is_end e then option_map (λ b. gap_of e b no_budget) own else None
+
+-- what is told of an edge behind a word, out of a part of the check, which has this error
+unfoldable pub edge_told : CertificateView → CheckError → Part → Option ℕ → EdgeView → Edge
+edge_told certificate error part word e = record {
   target = e.target;
   words = e.state.words;
+  source = source_of word e;
   left = left_of certificate part;
   entered = entered_of certificate error (budget_of (left_of certificate part)) e;
+  end = end_of error (budget_of (left_of certificate part)) e;
 }
 
 -- what is told of the edge that is refused behind the word at pc
-unfoldable pub edge_from : CertificateView → CheckError → Part → ℕ → AbstractView → Option Edge
-edge_from certificate error part pc a =
-    option_map (edge_told certificate error part) (refused_edge certificate pc a)
+unfoldable pub edge_from : CertificateView → CheckError → Part → ℕ → Option ℕ → AbstractView
+    → Option Edge
+edge_from certificate error part pc word a =
+    option_map (edge_told certificate error part word) (refused_edge certificate pc a)
 
 -- what is told where a part of the check stops at pc with this error: the edge that is refused
 unfoldable pub edge_at : ImageView → CertificateView → CheckError → Part → ℕ → Option Edge
 edge_at image certificate error part pc =
-    option_and_then (edge_from certificate error part pc) (behind_in image certificate part pc)
+    option_and_then (edge_from certificate error part pc (code_at pc image))
+    (behind_in image certificate part pc)
 
 -- ---- the words
 
-abbrev pub target_line : Option ℕ → ℕ → List ℕ
-target_line None words = codes "  leads to an address that is not known, after "
-    ++ (decimal words ++ codes " words\n")
-target_line (Some target) words = codes "  leads to " ++ (address_text target
-    ++ (codes ", after " ++ (decimal words ++ codes " words of the block\n")))
+unfoldable pub words_text : ℕ → List ℕ
+words_text words = if words == 1 then codes "1 word" else decimal words ++ codes " words"
+
+-- on the way into the first block no word is taken
+abbrev pub after_text : Option Left → ℕ → List ℕ
+after_text None words = []
+after_text (Some left) words = codes ", after " ++ (words_text words ++ codes " of the block")
+
+abbrev pub target_line : Option ℕ → Option Left → ℕ → List ℕ
+target_line None left words = codes "  leads to an address that is not known, after "
+    ++ (words_text words ++ codes "\n")
+target_line (Some target) left words =
+    codes "  leads to " ++ (address_text target ++ (after_text left words ++ codes "\n"))
+
+abbrev pub source_line : Option Source → List ℕ
+source_line None = []
+source_line (Some told) = range_line told.register told.range
 
 unfoldable pub product_text : ℕ → ℕ → List ℕ
 product_text factor register =
     if factor == 0 then []
-    else codes " + " ++ (decimal factor ++ (codes " * x" ++ decimal register))
+    else codes " + " ++ (times_text factor ++ (codes "x" ++ decimal register))
 
 unfoldable pub budget_text : Budget → List ℕ
 budget_text b = decimal b.constant
@@ -106,6 +196,11 @@ unfoldable pub entered_lines : Option Entered → List ℕ
 entered_lines None = []
 entered_lines (Some told) = block_line told.block told.budget ++ unshown_text told.unshown
 
+abbrev pub end_lines : Option Gap → List ℕ
+end_lines None = []
+end_lines (Some gap) = gap_text gap
+
 -- the lines of an edge
 unfoldable pub edge_text : Edge → List ℕ
-edge_text e = target_line e.target e.words ++ (left_line e.left ++ entered_lines e.entered)
+edge_text e = target_line e.target e.left e.words ++ (source_line e.source
+    ++ (left_line e.left ++ (entered_lines e.entered ++ end_lines e.end)))

@@ -1,5 +1,10 @@
 pub mod Access
 pub mod Check
 pub mod Edge
+pub mod Gaps
+pub mod Groups
+pub mod Illegal
+pub mod Spans
 pub mod Sums
 pub mod Unshown
+pub mod Vtypes

@@ -1,6 +1,5 @@
 -- What of the block entered is not shown on a way to it, and in which words it is told.
-use Rattle.std.specs.Prelude.{ℕ, ◌==◌, ◌++◌, not, find, List, [], codes, Option, Some, None, if◌then◌else◌}
-use Rattle.std.specs.Fmt.{decimal}
+use Rattle.std.specs.Prelude.{ℕ, ◌++◌, not, find, List, [], codes, Option, Some, None}
 use Rattle.cert_note.specs.declared.values.Block.{Block}
 use Rattle.cert_note.specs.declared.values.Budget.{Budget}
 use Rattle.cert_note.specs.declared.values.Equality.{Equality}
@@ -11,13 +10,15 @@ use Rattle.linear_facts.specs.Forms.{Linear, substituted}
 use Rattle.linear_facts.specs.declared.ranges.Range.{Range}
 use Rattle.abs_domain.specs.Starts.{equality_form}
 use Rattle.abs_domain.specs.declared.numbers.TheConstants.{VL}
-use Rattle.abs_transfer.specs.Facts.{fact_range}
 use Rattle.abs_state.specs.Branches.{EdgeView, value_on}
-use Rattle.abs_state.specs.Edges.{is_interval_shown, is_equality_shown, is_order_shown, is_vector_shown, least_of, most_of, next_total, own_total}
+use Rattle.abs_state.specs.Edges.{is_interval_shown, is_equality_shown, is_order_shown, is_vector_shown}
 use Rattle.block_checker.specs.declared.errors.CheckError.{CheckError}
 use Rattle.block_checker.specs.declared.errors.CheckError.TheVariants as error
-use Rattle.check_reasons.specs.Access.{span_text}
+use Rattle.check_reasons.specs.Spans.{span_text}
+use Rattle.check_reasons.specs.Gaps.{gap_of, gap_text}
+use Rattle.check_reasons.specs.Groups.{group_at, vector_text}
 use Rattle.check_reasons.specs.Sums.{name_text, sum_text}
+use Rattle.check_reasons.specs.Vtypes.{known_text, vtype_text}
 use Rattle.check_reasons.specs.declared.unshown.Number.{Number}
 use Rattle.check_reasons.specs.declared.unshown.Unshown.{Unshown}
 use Rattle.check_reasons.specs.declared.unshown.Unshown.TheVariants as unshown
@@ -46,7 +47,7 @@ unshown_interval e facts = told_interval e (find (λ fact. not (is_interval_show
 abbrev pub told_sum : EdgeView → ℕ → Option Equality → Unshown
 told_sum e register None = unshown.Untold
 told_sum e register (Some equality) =
-    unshown.Equality (number_on e register) (equality_form equality)
+    unshown.Equality register (value_on e register).form (equality_form equality)
     (substituted e.state.numbers.forms (equality_form equality))
 
 abbrev pub told_equality : EdgeView → Option RegisterFact → Unshown
@@ -65,10 +66,6 @@ told_order e (Some order) = unshown.Order (number_on e order.lesser) (number_on 
 unfoldable pub unshown_order : EdgeView → List OrderFact → Unshown
 unshown_order e orders = told_order e (find (λ order. not (is_order_shown e order)) orders)
 
--- what is known of a group that begins at a register
-abbrev pub group_at : ℕ → List VectorFact → Option VectorFact
-group_at register groups = find (λ fact. fact.register == register) groups
-
 abbrev pub told_vector : EdgeView → Option VectorFact → Unshown
 told_vector e None = unshown.Untold
 told_vector e (Some fact) =
@@ -78,12 +75,15 @@ told_vector e (Some fact) =
 unfoldable pub unshown_vector : EdgeView → List VectorFact → Unshown
 unshown_vector e facts = told_vector e (find (λ fact. not (is_vector_shown e fact)) facts)
 
--- what the budget of the block left comes to at least, and what was taken and the budget of the
--- block entered at most
-unfoldable pub unshown_budget : Option Budget → EdgeView → Budget → Unshown
+-- what the budget of the block left lacks
+abbrev pub unshown_budget : Option Budget → EdgeView → Budget → Unshown
 unshown_budget None e next = unshown.Untold
-unshown_budget (Some own) e next =
-    unshown.Budget (least_of (own_total e own)) (most_of (next_total e next))
+unshown_budget (Some own) e next = unshown.Budget (gap_of e own next)
+
+-- the vector type that the block states, beside the one that is known
+abbrev pub unshown_vtype : EdgeView → Option ℕ → Unshown
+unshown_vtype e None = unshown.Untold
+unshown_vtype e (Some wanted) = unshown.Vtype e.state.vtype wanted
 
 -- of each error, what of the block entered is not shown; the block that is left may have a budget
 unfoldable pub unshown_of : CheckError → Option Budget → EdgeView → Block → Unshown
@@ -95,7 +95,7 @@ unshown_of error.WrongVlen own e block = unshown.Untold
 unshown_of error.NoEntryBlock own e block = unshown.Untold
 unshown_of (error.NotCode pc) own e block = unshown.Untold
 unshown_of (error.IllegalWord pc) own e block = unshown.Untold
-unshown_of (error.VtypeUnknown pc) own e block = unshown.Untold
+unshown_of (error.VtypeUnknown pc) own e block = unshown_vtype e block.vtype
 unshown_of (error.AccessNotProved pc) own e block = unshown.Untold
 unshown_of (error.ReadOnly pc) own e block = unshown.Untold
 unshown_of (error.TargetNotABlock pc) own e block = unshown.Untold
@@ -137,23 +137,6 @@ there_line sum = codes "  that sum on this way: " ++ (sum_text sum ++ codes "\n"
 abbrev pub wanted_order : ℕ → ℕ → List ℕ
 wanted_order lesser greater = register_line wanted_words lesser (codes " <= ") (name_text greater)
 
--- how many elements a fact speaks of; 0 stands for vl
-unfoldable pub count_text : ℕ → List ℕ
-count_text count = if count == 0 then codes "vl" else decimal count
-
-abbrev pub group_text : VectorFact → List ℕ
-group_text fact =
-    codes "v" ++ (decimal fact.register ++ (codes ", registers " ++ (decimal fact.registers
-    ++ (codes ", SEW " ++ decimal fact.width))))
-
-abbrev pub elements_text : VectorFact → List ℕ
-elements_text fact =
-    codes ": " ++ (count_text fact.count
-    ++ (codes " elements in " ++ span_text (fact_range fact)))
-
-unfoldable pub vector_text : VectorFact → List ℕ
-vector_text fact = group_text fact ++ elements_text fact
-
 abbrev pub known_group : Option VectorFact → List ℕ
 known_group None = codes "  known: nothing of this group\n"
 known_group (Some fact) = known_words ++ (vector_text fact ++ codes "\n")
@@ -161,23 +144,20 @@ known_group (Some fact) = known_words ++ (vector_text fact ++ codes "\n")
 abbrev pub wanted_group : VectorFact → List ℕ
 wanted_group fact = wanted_words ++ (vector_text fact ++ codes "\n")
 
-abbrev pub left_line : ℕ → List ℕ
-left_line number = codes "  known: the budget left is at least " ++ (decimal number ++ codes "\n")
-
-abbrev pub asked_line : ℕ → List ℕ
-asked_line number =
-    codes "  known: these words and the budget entered are at most "
-    ++ (decimal number ++ codes "\n")
+abbrev pub vtype_lines : Option ℕ → ℕ → List ℕ
+vtype_lines known wanted = known_words ++ (known_text known
+    ++ (codes "\n" ++ (wanted_words ++ (vtype_text wanted ++ codes "\n"))))
 
 -- the lines of what is not shown
 unfoldable pub unshown_text : Unshown → List ℕ
 unshown_text unshown.Untold = []
 unshown_text (unshown.Interval known wanted) =
     number_lines known ++ wanted_range known.register wanted
-unshown_text (unshown.Equality known wanted there) =
-    number_lines known ++ (wanted_sum known.register wanted ++ there_line there)
+unshown_text (unshown.Equality register known wanted there) =
+    sum_line register known ++ (wanted_sum register wanted ++ there_line there)
 unshown_text (unshown.Order lesser greater) =
     number_lines lesser ++ (number_lines greater ++ wanted_order lesser.register greater.register)
 unshown_text (unshown.Vector wanted known vl) =
     range_line VL vl ++ (known_group known ++ wanted_group wanted)
-unshown_text (unshown.Budget left asked) = left_line left ++ asked_line asked
+unshown_text (unshown.Vtype known wanted) = vtype_lines known wanted
+unshown_text (unshown.Budget gap) = gap_text gap

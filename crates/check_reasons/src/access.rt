@@ -1,18 +1,27 @@
 //! Accesses that the check refused, and the zones of memory of a run.
-ghost use Rattle.std.specs.Prelude.{◌≡◌};
+ghost use Rattle.std.specs.Prelude.{◌≡◌, ◌+◌, ◌≤◌, ◌<◌, ◌++◌};
+ghost use Rattle.arrayvec.specs.ArrayVec.{array_vec_len};
 ghost use Rattle.scalar_core.specs.Step.{size_of_load, size_of_store};
 ghost use Rattle.abs_transfer.specs.Scalar.{address_range as address_range_of};
-ghost use Rattle.check_reasons.specs.Access.{access_wanted, is_store, operand_of};
+ghost use Rattle.check_reasons.specs.Access.{access_wanted, apart_in, buffer_place};
+ghost use Rattle.check_reasons.specs.Access.{buffer_places as buffer_places_of};
+ghost use Rattle.check_reasons.specs.Access.{elements_in as elements_in_of, is_buffer};
+ghost use Rattle.check_reasons.specs.Access.{is_store, operand_of};
 ghost use Rattle.check_reasons.specs.Access.{reach_from as reach_from_of};
 ghost use Rattle.check_reasons.specs.Access.{reach_in as reach_in_of, rights_text, scalar_operand};
 ghost use Rattle.check_reasons.specs.Access.{scalar_reach as scalar_reach_of};
 
+use crate::groups::{Vector, group_at};
+use crate::spans::Span;
 use abs_state::{Abstract, Numbers, Reach, Zone, address_range};
 use arrayvec::ArrayVec;
+use cert_note::VectorFact;
 use explanations::Address;
 use linear_facts::Range;
+use region_mem::{Param, Parameters};
 use rv_decode::{
-    Direction, Insn, LoadKind, Reg, ScalarInsn, Width, integer_computation, vector_arithmetic,
+    Addressing, Direction, Insn, LoadKind, Reg, ScalarInsn, Width, integer_computation,
+    vector_arithmetic,
 };
 use std::alloc::Allocator;
 use std::fmt;
@@ -33,10 +42,40 @@ pub struct Access {
     pub operand: Operand,
     /// What is known of the base register.
     pub interval: Range,
+    /// The elements of a vector instruction.
+    pub elements: Option<Elements>,
     /// Where its bytes may lie, if that is known.
     pub reach: Option<Reach>,
-    /// The zones of memory of a run.
+    /// The zones of memory of a run: the image's segments, the stack, and the buffers.
     pub zones: ArrayVec<Zone, 25>,
+    /// How many segments the image has.
+    pub segments: usize,
+    /// The places of the parameters that ask for buffers.
+    pub buffers: ArrayVec<u8, 8>,
+}
+
+/// How far the elements of a vector access lie apart.
+#[derive(Clone, Copy)]
+pub enum Apart {
+    /// They lie one after another.
+    Close,
+    /// By what a register has, and what is known of it.
+    Stride {
+        register: Reg,
+        range: Range,
+    },
+    /// As the elements of a group say that begins at a vector register, and what is known of it.
+    Indices {
+        register: Reg,
+        known: Option<VectorFact>,
+    },
+}
+
+/// What is known of the elements of a vector access.
+#[derive(Clone, Copy)]
+pub struct Elements {
+    pub vl: Range,
+    pub apart: Apart,
 }
 
 #[tactic(auto, unfolding(scalar_core::specs::Step::size_of_load))]
@@ -147,21 +186,69 @@ pub(crate) fn reach_in<A: Allocator>(state: &Abstract<A>, insn: &Insn) -> Option
     }
 }
 
-/// The numbers from one to another, as addresses.
-#[derive(Clone, Copy)]
-pub(crate) struct Span(pub(crate) Range);
-
-impl fmt::Display for Span {
-    ghost use Rattle.std.specs.Prelude.{Some};
-    ghost use Rattle.check_reasons.specs.Access.{span_text};
-
-    ghost output = { λ span. Some (span_text span.0) };
-
-    fn fmt<W: fmt::Write>(&self, f: &mut fmt::Formatter<W>) -> fmt::Result {
-        let low = Address(u64::from(self.0.lo));
-        let high = Address(u64::from(self.0.hi));
-        write!(f, "{low}..={high}")
+/// How far the elements of a vector access lie apart, with what is known before it.
+fn apart_in<A: Allocator>(state: &Abstract<A>, place: Addressing) -> Apart
+    ensures { result ≡ apart_in state.now place }
+{
+    match place {
+        Addressing::Unit { .. } | Addressing::Mask | Addressing::Whole { .. } => Apart::Close,
+        Addressing::Strided { rs2, .. } => Apart::Stride {
+            register: rs2,
+            range: state.numbers().range_at(usize::from(rs2.number())),
+        },
+        Addressing::Indexed { vs2, .. } => Apart::Indices {
+            register: vs2,
+            known: group_at(vs2.number(), state.groups()),
+        },
     }
+}
+
+/// The elements of a vector access, with what is known before it.
+#[tactic(auto, unfolding(crate::specs::Access::elements_in))]
+pub(crate) fn elements_in<A: Allocator>(state: &Abstract<A>, insn: &Insn) -> Option<Elements>
+    ensures { result ≡ elements_in_of insn.now state.now }
+{
+    match insn {
+        Insn::VMem(insn) => Some(Elements {
+            vl: state.numbers().range_at(abs_domain::VL),
+            apart: apart_in(state, insn.place),
+        }),
+        Insn::Scalar(_) | Insn::Csr(_) | Insn::VSet(_) | vector_arithmetic!() => None,
+    }
+}
+
+/// Whether a parameter asks for a buffer.
+fn is_buffer(param: Param) -> bool
+    ensures { result ≡ is_buffer param }
+{
+    match param {
+        Param::None | Param::Scalar { .. } => false,
+        Param::Buffer { .. } => true,
+    }
+}
+
+/// Appends the place of a parameter, if it asks for a buffer.
+#[tactic(auto, unfolding(crate::specs::Access::buffer_place))]
+fn add_place(places: &mut ArrayVec<u8, 8>, place: u8, param: Param)
+    requires { array_vec_len places.old < 8 }
+    ensures items { places.new.items ≡ places.old.items ++ buffer_place place param }
+    ensures len { array_vec_len places.new ≤ array_vec_len places.old + 1 }
+{
+    if is_buffer(param) {
+        places.push(place);
+    }
+}
+
+/// The places of the parameters that ask for buffers.
+pub(crate) fn buffer_places(parameters: &Parameters) -> ArrayVec<u8, 8>
+    ensures { result.items ≡ buffer_places_of 0 parameters.now }
+{
+    let mut places = ArrayVec::new();
+    let params = parameters.to_array();
+    for (place, param) in params.iter().enumerate() {
+        add_place(&mut places, place as u8, *param);
+    }
+    places
 }
 
 /// What may be done in a zone.
@@ -176,41 +263,172 @@ fn rights(zone: Zone) -> &'static str
     }
 }
 
+/// The name of a zone by its number: the segments come first, then the stack, and then the buffers of some places.
+#[derive(Clone, Copy)]
+struct ZoneName<'a> {
+    segments: usize,
+    buffers: &'a [u8],
+    number: usize,
+}
+
+impl fmt::Display for ZoneName<'_> {
+    ghost use Rattle.std.specs.Prelude.{Some};
+    ghost use Rattle.check_reasons.specs.Access.{zone_name};
+
+    ghost output = { λ name. Some (zone_name name.segments name.buffers.now name.number) };
+
+    #[tactic(auto, unfolding(crate::specs::Access::zone_name))]
+    fn fmt<W: fmt::Write>(&self, f: &mut fmt::Formatter<W>) -> fmt::Result {
+        let ZoneName {
+            segments,
+            buffers,
+            number,
+        } = *self;
+        if number < segments {
+            write!(f, "segment {number}")
+        } else if number == segments {
+            f.write_str("stack")
+        } else {
+            let place = match buffers.get(number - segments - 1) {
+                Some(place) => *place,
+                None => 0,
+            };
+            write!(f, "a{place}")
+        }
+    }
+}
+
 /// A zone, as a line. A zone without a byte is told by its first address alone.
 #[derive(Clone, Copy)]
-struct ZoneLine(Zone);
+struct ZoneLine<'a> {
+    name: ZoneName<'a>,
+    zone: Zone,
+}
 
-impl fmt::Display for ZoneLine {
+impl fmt::Display for ZoneLine<'_> {
     ghost use Rattle.std.specs.Prelude.{Some};
     ghost use Rattle.check_reasons.specs.Access.{zone_line};
 
-    ghost output = { λ line. Some (zone_line line.0) };
+    ghost output = { λ line. Some (zone_line line.name.segments line.name.buffers.now
+        line.name.number line.zone) };
 
     fn fmt<W: fmt::Write>(&self, f: &mut fmt::Formatter<W>) -> fmt::Result {
-        let first = Address(self.0.first);
-        let end = Address(self.0.end);
-        let rights = rights(self.0);
-        writeln!(f, "    from {first} and below {end}: {rights}")
+        let name = self.name;
+        let first = Address(self.zone.first);
+        let end = Address(self.zone.end);
+        let rights = rights(self.zone);
+        writeln!(f, "    {name}, from {first} and below {end}: {rights}")
     }
 }
 
 /// The zones, a line each.
 #[derive(Clone, Copy)]
-struct ZoneLines<'a>(&'a [Zone]);
+struct ZoneLines<'a> {
+    segments: usize,
+    buffers: &'a [u8],
+    zones: &'a [Zone],
+}
 
 impl fmt::Display for ZoneLines<'_> {
     ghost use Rattle.std.specs.Prelude.{Some};
     ghost use Rattle.check_reasons.specs.Access.{zone_lines};
 
-    ghost output = { λ lines. Some (zone_lines lines.0.now) };
+    ghost output = { λ lines. Some (zone_lines lines.segments lines.buffers.now lines.zones.now) };
 
-    #[tactic(auto, unfolding(crate::specs::Access::zone_lines))]
     fn fmt<W: fmt::Write>(&self, f: &mut fmt::Formatter<W>) -> fmt::Result {
-        for zone in self.0 {
-            let line = ZoneLine(*zone);
+        let ZoneLines {
+            segments,
+            buffers,
+            zones,
+        } = *self;
+        for (number, zone) in zones.iter().enumerate() {
+            let name = ZoneName {
+                segments,
+                buffers,
+                number,
+            };
+            let line = ZoneLine { name, zone: *zone };
             write!(f, "{line}")?;
         }
         Ok(())
+    }
+}
+
+/// How far the elements of a vector access lie apart, as a line.
+#[derive(Clone, Copy)]
+struct ApartLine(Apart);
+
+impl fmt::Display for ApartLine {
+    ghost use Rattle.std.specs.Prelude.{Some};
+    ghost use Rattle.check_reasons.specs.Access.{apart_line};
+
+    ghost output = { λ line. Some (apart_line line.0) };
+
+    fn fmt<W: fmt::Write>(&self, f: &mut fmt::Formatter<W>) -> fmt::Result {
+        match self.0 {
+            Apart::Close => Ok(()),
+            Apart::Stride { register, range } => {
+                let register = register.number();
+                let range = Span(range);
+                writeln!(f, "  known: the stride, x{register}, in {range}")
+            }
+            Apart::Indices { register, known } => match known {
+                None => {
+                    let register = register.number();
+                    writeln!(f, "  known: nothing of the indices, v{register}")
+                }
+                Some(fact) => {
+                    let fact = Vector(fact);
+                    writeln!(f, "  known: the indices, {fact}")
+                }
+            },
+        }
+    }
+}
+
+/// What is known of the elements of a vector access.
+#[derive(Clone, Copy)]
+struct ElementsLines(Option<Elements>);
+
+impl fmt::Display for ElementsLines {
+    ghost use Rattle.std.specs.Prelude.{Some};
+    ghost use Rattle.check_reasons.specs.Access.{elements_lines};
+
+    ghost output = { λ lines. Some (elements_lines lines.0) };
+
+    fn fmt<W: fmt::Write>(&self, f: &mut fmt::Formatter<W>) -> fmt::Result {
+        match self.0 {
+            None => Ok(()),
+            Some(elements) => {
+                let vl = Span(elements.vl);
+                let apart = ApartLine(elements.apart);
+                write!(f, "  known: vl in {vl}\n{apart}")
+            }
+        }
+    }
+}
+
+/// Where the bytes of an access may lie, as a line: the first one and the last one.
+#[derive(Clone, Copy)]
+struct ReachLine(Option<Reach>);
+
+impl fmt::Display for ReachLine {
+    ghost use Rattle.std.specs.Prelude.{Some};
+    ghost use Rattle.check_reasons.specs.Access.{reach_line};
+
+    ghost output = { λ line. Some (reach_line line.0) };
+
+    fn fmt<W: fmt::Write>(&self, f: &mut fmt::Formatter<W>) -> fmt::Result {
+        match self.0 {
+            None => f.write_str(
+                "  known: no bounds of its bytes: the stride is not one number, or they reach below 0\n",
+            ),
+            Some(reach) => {
+                let first = Address(reach.first);
+                let last = Address(reach.end.saturating_sub(1));
+                writeln!(f, "  known: its bytes in {first}..={last}")
+            }
+        }
     }
 }
 
@@ -257,22 +475,15 @@ impl fmt::Display for Access {
         let base = self.operand.base.number();
         let interval = Span(self.interval);
         let size = SizeLines(self.operand);
+        let elements = ElementsLines(self.elements);
+        let reach = ReachLine(self.reach);
         let wanted = access_wanted(self.operand);
-        let zones = ZoneLines(self.zones.as_slice());
+        let zones = ZoneLines {
+            segments: self.segments,
+            buffers: self.buffers.as_slice(),
+            zones: self.zones.as_slice(),
+        };
         writeln!(f, "  known: x{base} in {interval}")?;
-        match self.reach {
-            None => write!(
-                f,
-                "{size}  known: nothing of where its bytes lie\n{wanted}{zones}"
-            ),
-            Some(reach) => {
-                let first = Address(reach.first);
-                let last = Address(reach.end.saturating_sub(1));
-                write!(
-                    f,
-                    "{size}  known: its bytes in {first}..={last}\n{wanted}{zones}"
-                )
-            }
-        }
+        write!(f, "{size}{elements}{reach}{wanted}{zones}")
     }
 }

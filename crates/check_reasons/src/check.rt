@@ -3,12 +3,18 @@
 ghost use Rattle.std.specs.Prelude.{◌≡◌, IfOk, IfSome, option_map};
 ghost use Rattle.block_checker.specs.Explained.{Explains, IsStopped, answer_of};
 ghost use Rattle.block_checker.specs.Passes.{checked as checked_of};
+ghost use Rattle.elf_image.specs.Image.{code_at};
+ghost use Rattle.rv_decode.specs.Decode.{meaning_of};
+ghost use Rattle.std.specs.Option.{option_and_then};
 ghost use Rattle.check_reasons.specs.Check.{IsAccess, IsListed, IsWanted, IsWantedBy, IsWantedHere};
-ghost use Rattle.check_reasons.specs.Check.{explanation_of, if_edge, spot_of, state_of, word_of};
+ghost use Rattle.check_reasons.specs.Check.{explanation_of, if_edge, kept_of, spot_of, state_of};
+ghost use Rattle.check_reasons.specs.Check.{illegal_at as illegal_at_of, vtype_rule, word_in};
+ghost use Rattle.check_reasons.specs.Check.{word_of};
 ghost use Rattle.check_reasons.specs.Edge.{edge_from};
 
-use crate::access::{Access, operand_of, reach_in};
+use crate::access::{Access, buffer_places, elements_in, operand_of, reach_in};
 use crate::edge::{Edge, edge_at};
+use crate::illegal::{Illegal, operands_in};
 use abs_state::{MOST_WORDS, memory_zones};
 use block_checker::{CheckError, Explanation, Kept, Part, Refused, Spot, Stop, checked};
 use cert_note::Certificate;
@@ -32,6 +38,8 @@ pub enum Wanted {
     Access(Access),
     /// What the block that a way out enters states.
     Edge(Edge),
+    /// Operands that are legal under the vector type that is known.
+    Illegal(Illegal),
 }
 
 /// Why an image is refused with its certificate.
@@ -72,6 +80,16 @@ fn explanation_of<A: Allocator, B: Allocator>(
     Explanation { error, stop }
 }
 
+/// The word of a part of the check. On the way into the first block no word is at fault.
+fn word_in(part: Part, word: Option<u32>) -> Option<u32>
+    ensures { result ≡ word_in part word }
+{
+    match part {
+        Part::Entry => None,
+        Part::Block(_) => word,
+    }
+}
+
 /// The word at which a check stopped, as it is listed.
 fn listing_of<A: Allocator + Copy>(
     alloc: A,
@@ -82,7 +100,7 @@ fn listing_of<A: Allocator + Copy>(
     let Some(stop) = stop else {
         return Ok(None);
     };
-    match stop.word {
+    match word_in(stop.part, stop.word) {
         None => Ok(None),
         Some(word) => {
             let text = listed(alloc, word, stop.pc)?;
@@ -113,12 +131,33 @@ fn access_at<A: Allocator, B: Allocator, C: Allocator>(
         return Wanted::Plain;
     };
     let base = usize::from(operand.base.number());
+    let parameters = &certificate.contents().parameters;
     Wanted::Access(Access {
         operand,
         interval: stop.state.numbers().range_at(base),
+        elements: elements_in(&stop.state, &insn),
         reach: reach_in(&stop.state, &insn),
-        zones: memory_zones(image, &certificate.contents().parameters),
+        zones: memory_zones(image, parameters),
+        segments: image.segments().len(),
+        buffers: buffer_places(parameters),
     })
+}
+
+/// What a word at which a check stopped wants that is not legal, by what is kept of the place before it.
+fn illegal_at<A: Allocator, B: Allocator>(image: &Image<B>, stop: &Option<Stop<A>>) -> Wanted
+    ensures { result ≡ illegal_at_of (option_and_then meaning_of (word_of image.now stop.now))
+        (state_of stop.now) }
+{
+    let Some(stop) = stop else {
+        return Wanted::Plain;
+    };
+    let Some(word) = image.code_at(stop.pc) else {
+        return Wanted::Plain;
+    };
+    let Some(insn) = decode(word) else {
+        return Wanted::Plain;
+    };
+    Wanted::Illegal(operands_in(stop.state.vtype(), &insn))
 }
 
 /// What is wanted where no way out is refused.
@@ -141,8 +180,8 @@ fn wanted_here<A: Allocator, B: Allocator, C: Allocator>(
         CheckError::AccessNotProved(_) | CheckError::ReadOnly(_) => {
             access_at(image, certificate, stop)
         }
+        CheckError::IllegalWord(_) => illegal_at(image, stop),
         CheckError::NotCode(_)
-        | CheckError::IllegalWord(_)
         | CheckError::VtypeUnknown(_)
         | CheckError::TargetNotABlock(_)
         | CheckError::IntervalNotProved(_)
@@ -156,15 +195,17 @@ fn wanted_here<A: Allocator, B: Allocator, C: Allocator>(
 }
 
 /// What a way out that is refused wants, by what is kept of the place behind the word.
-fn edge_wanted<A: Allocator, C: Allocator>(
+fn edge_wanted<A: Allocator, B: Allocator, C: Allocator>(
+    image: &Image<B>,
     certificate: &Certificate<C>,
     error: CheckError,
     stop: &Stop<A>,
 ) -> Wanted
     ensures { result ≡ if_edge (edge_from certificate.now error stop.now.part stop.now.pc
-        stop.now.state) }
+        (code_at stop.now.pc image.now) stop.now.state) }
 {
-    match edge_at(certificate, error, stop.part, stop.pc, &stop.state) {
+    let word = image.code_at(stop.pc);
+    match edge_at(certificate, error, stop.part, stop.pc, word, &stop.state) {
         Some(edge) => Wanted::Edge(edge),
         None => Wanted::Plain,
     }
@@ -185,7 +226,7 @@ fn wanted_of<A: Allocator, B: Allocator, C: Allocator>(
     match stop {
         None => wanted_here(image, certificate, vlen, error, stop),
         Some(at) => match at.kept {
-            Kept::Behind => edge_wanted(certificate, error, at),
+            Kept::Behind => edge_wanted(image, certificate, error, at),
             Kept::Before | Kept::End => wanted_here(image, certificate, vlen, error, stop),
         },
     }
@@ -278,7 +319,7 @@ pub fn check_reason<A: Allocator + Copy, B: Allocator, C: Allocator>(
     }
 }
 
-/// Where a check stopped, and the word there.
+/// Where a check stopped, and the word there, if it is in a block.
 #[derive(Clone, Copy)]
 struct StopLines<'a>(&'a Option<Spot>);
 
@@ -292,18 +333,14 @@ impl fmt::Display for StopLines<'_> {
     fn fmt<W: fmt::Write>(&self, f: &mut fmt::Formatter<W>) -> fmt::Result {
         match self.0 {
             None => Ok(()),
-            Some(stop) => {
-                let word = WordLine(stop.pc, stop.word);
-                match stop.part {
-                    Part::Entry => {
-                        write!(f, "  stopped on the way into the first block\n{word}")
-                    }
-                    Part::Block(start) => {
-                        let start = Address(u64::from(start));
-                        write!(f, "  stopped in the block at {start}\n{word}")
-                    }
+            Some(stop) => match stop.part {
+                Part::Entry => f.write_str("  stopped on the way into the first block\n"),
+                Part::Block(start) => {
+                    let start = Address(u64::from(start));
+                    let word = WordLine(stop.pc, stop.word);
+                    write!(f, "  stopped in the block at {start}\n{word}")
                 }
-            }
+            },
         }
     }
 }
@@ -326,30 +363,51 @@ impl<A: Allocator> fmt::Display for ListingLine<'_, A> {
     }
 }
 
-/// What is wanted, by the error alone.
+/// The vector type that is wanted: one that a word needs, or that of the block that a way out enters.
+fn vtype_rule(kept: Kept) -> &'static str
+    ensures { result.now ≡ vtype_rule kept }
+{
+    match kept {
+        Kept::Behind => "  wanted: the vector type of the block entered\n",
+        Kept::Before | Kept::End => "  wanted: a vector type that is known there\n",
+    }
+}
+
+/// What is kept of a stop; before a word where there is none.
+fn kept_of(stop: &Option<Spot>) -> Kept
+    ensures { result ≡ kept_of stop.now }
+{
+    match stop {
+        None => Kept::Before,
+        Some(stop) => stop.kept,
+    }
+}
+
+/// What is wanted, by what a stop keeps and by the error.
 #[derive(Clone, Copy)]
-struct Rule(CheckError);
+struct Rule(Kept, CheckError);
 
 impl fmt::Display for Rule {
     ghost use Rattle.std.specs.Prelude.{Some};
     ghost use Rattle.check_reasons.specs.Check.{rule};
 
-    ghost output = { λ told. Some (rule told.0) };
+    ghost output = { λ told. Some (rule told.0 told.1) };
 
     fn fmt<W: fmt::Write>(&self, f: &mut fmt::Formatter<W>) -> fmt::Result {
-        let error = self.0;
+        let Rule(kept, error) = *self;
         f.write_str(match error {
             CheckError::WrongVlen => "",
             CheckError::NoEntryBlock => "",
             CheckError::NotCode(_) => "  wanted: a word in one segment that can be executed\n",
             CheckError::IllegalWord(_) => "  wanted: an instruction that is legal there\n",
-            CheckError::VtypeUnknown(_) => "  wanted: a vector type that is known there\n",
+            CheckError::VtypeUnknown(_) => return f.write_str(vtype_rule(kept)),
             CheckError::AccessNotProved(_) => "",
             CheckError::ReadOnly(_) => "",
             CheckError::TargetNotABlock(_) =>
                 "  wanted: a block where the word leads, or the exit\n",
             CheckError::IntervalNotProved(_) => "  wanted: the intervals of the block entered\n",
-            CheckError::EqualityNotProved(_) => "  wanted: the equalities of the block entered\n",
+            CheckError::EqualityNotProved(_) =>
+                "  wanted: the equalities of the block entered: the sums have to be the same\n",
             CheckError::OrderNotProved(_) => "  wanted: the orders of the block entered\n",
             CheckError::VectorFactNotProved(_) =>
                 "  wanted: the vector facts of the block entered\n",
@@ -384,6 +442,7 @@ impl fmt::Display for Wanted {
             }
             Wanted::Access(access) => write!(f, "{access}"),
             Wanted::Edge(edge) => write!(f, "{edge}"),
+            Wanted::Illegal(illegal) => write!(f, "{illegal}"),
         }
     }
 }
@@ -417,7 +476,7 @@ impl<A: Allocator> fmt::Display for CheckReason<A> {
     fn fmt<W: fmt::Write>(&self, f: &mut fmt::Formatter<W>) -> fmt::Result {
         let stop = StopLines(&self.explanation.stop);
         let listing = ListingLine(&self.listing);
-        let rule = Rule(self.explanation.error);
+        let rule = Rule(kept_of(&self.explanation.stop), self.explanation.error);
         let wanted = &self.wanted;
         write!(f, "{stop}{listing}{rule}{wanted}")
     }

@@ -1,14 +1,20 @@
 //! The way out of a word that the check refused: the block that it enters, and what is not shown of it.
 ghost use Rattle.std.specs.Prelude.{◌≡◌};
-ghost use Rattle.check_reasons.specs.Edge.{budget_of, edge_from, edge_told};
-ghost use Rattle.check_reasons.specs.Edge.{entered_at as entered_at_of};
-ghost use Rattle.check_reasons.specs.Edge.{entered_of, left_of};
+ghost use Rattle.check_reasons.specs.Edge.{budget_of, edge_from, edge_told, end_of};
+ghost use Rattle.check_reasons.specs.Edge.{entered_of, is_end as is_end_of, is_of_budget, jump_in};
+ghost use Rattle.check_reasons.specs.Edge.{jump_of, jump_register as jump_register_of, left_of};
+ghost use Rattle.check_reasons.specs.Edge.{source_of as source_of_edge};
 
+use crate::gaps::{Gap, NO_BUDGET, gap_on};
+use crate::spans::Span;
+use crate::sums::{Name, Times};
 use crate::unshown::{Unshown, unshown_in};
 use abs_state::{Abstract, Edge as KnownEdge};
 use block_checker::{CheckError, Part, place_of, refused_edge};
 use cert_note::{Budget, Certificate};
 use explanations::Address;
+use linear_facts::Range;
+use rv_decode::{Insn, ScalarInsn, decode, integer_computation, vector_arithmetic};
 use scalar_core::EXIT;
 use std::alloc::Allocator;
 use std::fmt;
@@ -32,6 +38,13 @@ pub struct Left {
     pub budget: Budget,
 }
 
+/// A register by which a word jumps, and what is known of it.
+#[derive(Clone, Copy, PartialEq, Eq)]
+pub struct Source {
+    pub register: u8,
+    pub range: Range,
+}
+
 /// A way out of a word that the check refused.
 #[derive(Drop)]
 pub struct Edge {
@@ -39,10 +52,14 @@ pub struct Edge {
     pub target: Option<u32>,
     /// How many words of the block were taken.
     pub words: u32,
+    /// The register by which the word leads to an address that is not known, unless it sets that register, too.
+    pub source: Option<Source>,
     /// The block of the word. The way into the first block leaves none.
     pub left: Option<Left>,
     /// The block there.
     pub entered: Option<Entered>,
+    /// Where it leads to the end of the run: what the budget of the block left lacks.
+    pub end: Option<Gap>,
 }
 
 /// The block of a part of the check.
@@ -96,39 +113,222 @@ fn budget_of(left: Option<Left>) -> Option<Budget>
     }
 }
 
-/// What is told of a way out.
+/// The register by which an instruction jumps, unless it sets that register, too.
+fn jump_in(insn: ScalarInsn) -> Option<u8>
+    ensures { result ≡ jump_in insn }
+{
+    match insn {
+        ScalarInsn::Jalr { rd, rs1, .. } => { if rd == rs1 { None } else { Some(rs1.number()) } }
+        ScalarInsn::Jal { .. }
+        | ScalarInsn::Branch { .. }
+        | ScalarInsn::Load { .. }
+        | ScalarInsn::Store { .. }
+        | ScalarInsn::Fence
+        | ScalarInsn::Ecall
+        | integer_computation!() => None,
+    }
+}
+
+/// The same of any instruction.
+fn jump_of(insn: &Insn) -> Option<u8>
+    ensures { result ≡ jump_of insn.now }
+{
+    match *insn {
+        Insn::Scalar(insn) => jump_in(insn),
+        Insn::VMem(_) | Insn::Csr(_) | Insn::VSet(_) | vector_arithmetic!() => None,
+    }
+}
+
+/// The same of a word.
+#[tactic(auto, unfolding(crate::specs::Edge::jump_register))]
+fn jump_register(word: Option<u32>) -> Option<u8>
+    ensures { result ≡ jump_register_of word }
+{
+    let Some(word) = word else {
+        return None;
+    };
+    match decode(word) {
+        None => None,
+        Some(insn) => jump_of(&insn),
+    }
+}
+
+/// What is known of the register by which a word leads to an address that is not known.
+#[tactic(auto, unfolding(crate::specs::Edge::source_of))]
+fn source_of<A: Allocator>(word: Option<u32>, way: &KnownEdge<'_, A>) -> Option<Source>
+    ensures { result ≡ source_of_edge word way.now }
+{
+    if way.target().is_some() {
+        return None;
+    }
+    let register = jump_register(word)?;
+    Some(Source {
+        register,
+        range: way.range_on(register),
+    })
+}
+
+/// Whether a way leads to the end of the run.
+fn is_end<A: Allocator>(way: &KnownEdge<'_, A>) -> bool
+    ensures { result ≡ is_end_of way.now }
+{
+    match way.target() {
+        None => false,
+        Some(target) => target == EXIT,
+    }
+}
+
+/// Whether a budget was not proved.
+fn is_of_budget(error: CheckError) -> bool
+    ensures { result ≡ is_of_budget error }
+{
+    matches!(error, CheckError::BudgetNotProved(_))
+}
+
+/// What a budget lacks on a way to the end of the run.
+#[tactic(auto, unfolding(crate::specs::Edge::end_of))]
+fn end_gap<A: Allocator>(
+    error: CheckError,
+    own: Option<Budget>,
+    way: &KnownEdge<'_, A>,
+) -> Option<Gap>
+    ensures { result ≡ end_of error own way.now }
+{
+    if is_of_budget(error) && is_end(way) {
+        let own = own?;
+        Some(gap_on(way, own, NO_BUDGET))
+    } else {
+        None
+    }
+}
+
+/// What is told of a way out behind a word.
 #[tactic(auto, unfolding(crate::specs::Edge::edge_told))]
 fn told<A: Allocator, C: Allocator>(
     certificate: &Certificate<C>,
     error: CheckError,
     part: Part,
+    word: Option<u32>,
     way: &KnownEdge<'_, A>,
 ) -> Edge
-    ensures { result ≡ edge_told certificate.now error part way.now }
+    ensures { result ≡ edge_told certificate.now error part word way.now }
 {
     let left = left_block(certificate, part);
+    let own = budget_of(left);
     Edge {
         target: way.target(),
         words: way.words(),
+        source: source_of(word, way),
         left,
-        entered: entered_block(certificate, error, budget_of(left), way),
+        entered: entered_block(certificate, error, own, way),
+        end: end_gap(error, own, way),
     }
 }
 
-/// The way out of a state behind the word at pc that is refused.
+/// The way out of a state behind a word at pc that is refused.
 #[tactic(auto, unfolding(crate::specs::Edge::edge_from))]
 pub(crate) fn edge_at<A: Allocator, C: Allocator>(
     certificate: &Certificate<C>,
     error: CheckError,
     part: Part,
     pc: u32,
+    word: Option<u32>,
     state: &Abstract<A>,
 ) -> Option<Edge>
-    ensures { result ≡ edge_from certificate.now error part pc state.now }
+    ensures { result ≡ edge_from certificate.now error part pc word state.now }
 {
     match refused_edge(certificate, pc, state) {
         None => None,
-        Some(way) => Some(told(certificate, error, part, &way)),
+        Some(way) => Some(told(certificate, error, part, word, &way)),
+    }
+}
+
+/// A number of words.
+#[derive(Clone, Copy)]
+struct Words(u32);
+
+impl fmt::Display for Words {
+    ghost use Rattle.std.specs.Prelude.{Some};
+    ghost use Rattle.check_reasons.specs.Edge.{words_text};
+
+    ghost output = { λ words. Some (words_text words.0) };
+
+    #[tactic(auto, unfolding(crate::specs::Edge::words_text))]
+    fn fmt<W: fmt::Write>(&self, f: &mut fmt::Formatter<W>) -> fmt::Result {
+        let words = self.0;
+        if words == 1 {
+            f.write_str("1 word")
+        } else {
+            write!(f, "{words} words")
+        }
+    }
+}
+
+/// How many words of the block that is left were taken. On the way into the first block none are.
+#[derive(Clone, Copy)]
+struct After(Option<Left>, Words);
+
+impl fmt::Display for After {
+    ghost use Rattle.std.specs.Prelude.{Some};
+    ghost use Rattle.check_reasons.specs.Edge.{after_text};
+
+    ghost output = { λ after. Some (after_text after.0 after.1.0) };
+
+    fn fmt<W: fmt::Write>(&self, f: &mut fmt::Formatter<W>) -> fmt::Result {
+        let words = self.1;
+        match self.0 {
+            None => Ok(()),
+            Some(_) => write!(f, ", after {words} of the block"),
+        }
+    }
+}
+
+/// Where a way leads, as a line.
+#[derive(Clone, Copy)]
+struct TargetLine {
+    target: Option<u32>,
+    left: Option<Left>,
+    words: u32,
+}
+
+impl fmt::Display for TargetLine {
+    ghost use Rattle.std.specs.Prelude.{Some};
+    ghost use Rattle.check_reasons.specs.Edge.{target_line};
+
+    ghost output = { λ line. Some (target_line line.target line.left line.words) };
+
+    fn fmt<W: fmt::Write>(&self, f: &mut fmt::Formatter<W>) -> fmt::Result {
+        let words = Words(self.words);
+        match self.target {
+            None => writeln!(f, "  leads to an address that is not known, after {words}"),
+            Some(target) => {
+                let target = Address(u64::from(target));
+                let after = After(self.left, words);
+                writeln!(f, "  leads to {target}{after}")
+            }
+        }
+    }
+}
+
+/// What is known of the register by which a word jumps, as a line.
+#[derive(Clone, Copy)]
+struct SourceLine(Option<Source>);
+
+impl fmt::Display for SourceLine {
+    ghost use Rattle.std.specs.Prelude.{Some};
+    ghost use Rattle.check_reasons.specs.Edge.{source_line};
+
+    ghost output = { λ line. Some (source_line line.0) };
+
+    fn fmt<W: fmt::Write>(&self, f: &mut fmt::Formatter<W>) -> fmt::Result {
+        match self.0 {
+            None => Ok(()),
+            Some(source) => {
+                let name = Name(source.register);
+                let range = Span(source.range);
+                writeln!(f, "  known: {name} in {range}")
+            }
+        }
     }
 }
 
@@ -151,7 +351,8 @@ impl fmt::Display for Product {
         if factor == 0 {
             Ok(())
         } else {
-            write!(f, " + {factor} * x{register}")
+            let times = Times(factor);
+            write!(f, " + {times}x{register}")
         }
     }
 }
@@ -234,6 +435,24 @@ impl fmt::Display for EnteredLines<'_> {
     }
 }
 
+/// What a budget lacks at the end of the run, if it does.
+#[derive(Clone, Copy)]
+struct EndLines(Option<Gap>);
+
+impl fmt::Display for EndLines {
+    ghost use Rattle.std.specs.Prelude.{Some};
+    ghost use Rattle.check_reasons.specs.Edge.{end_lines};
+
+    ghost output = { λ lines. Some (end_lines lines.0) };
+
+    fn fmt<W: fmt::Write>(&self, f: &mut fmt::Formatter<W>) -> fmt::Result {
+        match self.0 {
+            None => Ok(()),
+            Some(gap) => write!(f, "{gap}"),
+        }
+    }
+}
+
 impl fmt::Display for Edge {
     ghost use Rattle.std.specs.Prelude.{Some};
     ghost use Rattle.check_reasons.specs.Edge.{edge_text};
@@ -242,21 +461,15 @@ impl fmt::Display for Edge {
 
     #[tactic(auto, unfolding(crate::specs::Edge::edge_text))]
     fn fmt<W: fmt::Write>(&self, f: &mut fmt::Formatter<W>) -> fmt::Result {
-        let words = self.words;
+        let target = TargetLine {
+            target: self.target,
+            left: self.left,
+            words: self.words,
+        };
+        let source = SourceLine(self.source);
         let left = LeftLine(self.left);
         let entered = EnteredLines(&self.entered);
-        match self.target {
-            None => write!(
-                f,
-                "  leads to an address that is not known, after {words} words\n{left}{entered}"
-            ),
-            Some(target) => {
-                let target = Address(u64::from(target));
-                write!(
-                    f,
-                    "  leads to {target}, after {words} words of the block\n{left}{entered}"
-                )
-            }
-        }
+        let end = EndLines(self.end);
+        write!(f, "{target}{source}{left}{entered}{end}")
     }
 }

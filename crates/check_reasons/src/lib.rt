@@ -6,11 +6,18 @@
 mod access;
 mod check;
 mod edge;
+mod gaps;
+mod groups;
+mod illegal;
+mod spans;
 mod sums;
 mod unshown;
+mod vtypes;
 
-pub use access::{Access, Operand};
+pub use access::{Access, Apart, Elements, Operand};
 pub use check::{CheckReason, Wanted, check_reason, reason_of};
-pub use edge::{Edge, Entered, Left};
+pub use edge::{Edge, Entered, Left, Source};
+pub use gaps::Gap;
+pub use illegal::{Group, Illegal};
 pub use sums::Sum;
 pub use unshown::{Number, Unshown};

@@ -1,6 +1,7 @@
 //! Sums modulo 2^32, of a constant and multiples of numbers, as they are told.
-ghost use Rattle.std.specs.Prelude.{◌≡◌};
+ghost use Rattle.std.specs.Prelude.{◌≡◌, false};
 ghost use Rattle.abs_domain.specs.Starts.{equality_form};
+ghost use Rattle.check_reasons.specs.Sums.{is_added as is_added_of, less_of};
 
 use arrayvec::ArrayVec;
 use cert_note::Equality;
@@ -106,6 +107,43 @@ impl fmt::Display for Atom {
     }
 }
 
+/// How many times a number is taken, in front of its name. Once is not told.
+#[derive(Clone, Copy)]
+pub(crate) struct Times(pub(crate) u32);
+
+impl fmt::Display for Times {
+    ghost use Rattle.std.specs.Prelude.{Some};
+    ghost use Rattle.check_reasons.specs.Sums.{times_text};
+
+    ghost output = { λ times. Some (times_text times.0) };
+
+    #[tactic(auto, unfolding(crate::specs::Sums::times_text))]
+    fn fmt<W: fmt::Write>(&self, f: &mut fmt::Formatter<W>) -> fmt::Result {
+        let times = self.0;
+        if times == 1 {
+            Ok(())
+        } else {
+            write!(f, "{times} * ")
+        }
+    }
+}
+
+/// Whether a multiple of an atom is told as one that is added.
+fn is_added(term: Term) -> bool
+    ensures { result ≡ is_added_of term }
+{
+    term.coefficient < 1 << 31
+}
+
+/// How many times its atom a term takes away that is not added.
+fn less(term: Term) -> u32
+    requires { is_added_of term ≡ false }
+    ensures { result ≡ less_of term }
+{
+    let less = (1_u64 << 32) - u64::from(term.coefficient);
+    less as u32
+}
+
 /// A multiple of an atom that is added, or taken away.
 #[derive(Clone, Copy)]
 struct TermText(Term);
@@ -118,13 +156,36 @@ impl fmt::Display for TermText {
 
     #[tactic(auto, unfolding(crate::specs::Sums::term_text))]
     fn fmt<W: fmt::Write>(&self, f: &mut fmt::Formatter<W>) -> fmt::Result {
-        let coefficient = self.0.coefficient;
         let atom = Atom(self.0.atom);
-        if coefficient < 1 << 31 {
-            write!(f, " + {coefficient} * {atom}")
+        if is_added(self.0) {
+            let more = Times(self.0.coefficient);
+            write!(f, " + {more}{atom}")
         } else {
-            let less = (1_u64 << 32) - u64::from(coefficient);
-            write!(f, " - {less} * {atom}")
+            let less = Times(less(self.0));
+            write!(f, " - {less}{atom}")
+        }
+    }
+}
+
+/// The first one of a sum, where nothing stands before it.
+#[derive(Clone, Copy)]
+struct FirstText(Term);
+
+impl fmt::Display for FirstText {
+    ghost use Rattle.std.specs.Prelude.{Some};
+    ghost use Rattle.check_reasons.specs.Sums.{first_text};
+
+    ghost output = { λ term. Some (first_text term.0) };
+
+    #[tactic(auto, unfolding(crate::specs::Sums::first_text))]
+    fn fmt<W: fmt::Write>(&self, f: &mut fmt::Formatter<W>) -> fmt::Result {
+        let atom = Atom(self.0.atom);
+        if is_added(self.0) {
+            let more = Times(self.0.coefficient);
+            write!(f, "{more}{atom}")
+        } else {
+            let less = Times(less(self.0));
+            write!(f, "-{less}{atom}")
         }
     }
 }
@@ -155,9 +216,22 @@ impl<const N: usize> fmt::Display for Sum<N> {
 
     ghost output = { λ sum. Some (sum_text sum) };
 
+    #[tactic(auto, unfolding(crate::specs::Sums::sum_of))]
     fn fmt<W: fmt::Write>(&self, f: &mut fmt::Formatter<W>) -> fmt::Result {
         let constant = Address(u64::from(self.constant));
-        let terms = Terms(self.terms.as_slice());
-        write!(f, "{constant}{terms}")
+        let terms = self.terms.as_slice();
+        match terms.split_first() {
+            None => write!(f, "{constant}"),
+            Some((first, others)) => {
+                if self.constant == 0 {
+                    let first = FirstText(*first);
+                    let others = Terms(others);
+                    write!(f, "{first}{others}")
+                } else {
+                    let terms = Terms(terms);
+                    write!(f, "{constant}{terms}")
+                }
+            }
+        }
     }
 }

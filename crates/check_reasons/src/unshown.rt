@@ -5,19 +5,22 @@ ghost use Rattle.abs_state.specs.Edges.{is_equality_shown as is_equality_shown_o
 ghost use Rattle.abs_state.specs.Edges.{is_interval_shown as is_interval_shown_of};
 ghost use Rattle.abs_state.specs.Edges.{is_order_shown as is_order_shown_of};
 ghost use Rattle.abs_state.specs.Edges.{is_vector_shown as is_vector_shown_of};
-ghost use Rattle.check_reasons.specs.Unshown.{group_at as group_at_of, number_on as number_on_of};
+ghost use Rattle.check_reasons.specs.Unshown.{number_on as number_on_of};
 ghost use Rattle.check_reasons.specs.Unshown.{told_sum as told_sum_of, unshown_of};
 ghost use Rattle.check_reasons.specs.Unshown.{unshown_budget as unshown_budget_of};
 ghost use Rattle.check_reasons.specs.Unshown.{unshown_equality as unshown_equality_of};
 ghost use Rattle.check_reasons.specs.Unshown.{unshown_interval as unshown_interval_of};
 ghost use Rattle.check_reasons.specs.Unshown.{unshown_order as unshown_order_of};
 ghost use Rattle.check_reasons.specs.Unshown.{unshown_vector as unshown_vector_of};
+ghost use Rattle.check_reasons.specs.Unshown.{unshown_vtype as unshown_vtype_of};
 
-use crate::access::Span;
+use crate::gaps::{Gap, gap_on};
+use crate::groups::{Vector, group_at};
+use crate::spans::Span;
 use crate::sums::{Name, Sum, VL, sum_of, sum_stated};
+use crate::vtypes::{KnownVtype, VtypeText};
 use abs_state::{
-    Edge, is_equality_shown, is_interval_shown, is_order_shown, is_vector_shown, least_left,
-    most_asked, sum_on,
+    Edge, is_equality_shown, is_interval_shown, is_order_shown, is_vector_shown, sum_on,
 };
 use block_checker::CheckError;
 use cert_note::{Block, Budget, Equality, OrderFact, RegisterFact, VectorFact};
@@ -44,9 +47,16 @@ pub enum Unshown {
         known: Number,
         wanted: Range,
     },
-    /// An equality. What is wanted is in numbers of the block entered, and again in those of the block that the way leaves.
+    /// The vector type.
+    Vtype {
+        known: Option<u8>,
+        wanted: u8,
+    },
+    /// An equality of a register, or of vl: what is known of it in numbers of where the block begins that the way leaves. What
+    /// is wanted is in numbers of the block entered, and again in those of the block that the way leaves.
     Equality {
-        known: Number,
+        register: u8,
+        known: Sum<8>,
         wanted: Sum<8>,
         there: Sum<64>,
     },
@@ -61,12 +71,8 @@ pub enum Unshown {
         known: Option<VectorFact>,
         vl: Range,
     },
-    /// A budget: what the one of the block left comes to at least, and what was taken and the one of the block entered come
-    /// to at most.
-    Budget {
-        left: u128,
-        asked: u128,
-    },
+    /// A budget.
+    Budget(Gap),
 }
 
 /// A register, or vl, with what is known of it on the way.
@@ -127,7 +133,8 @@ fn told_sum<A: Allocator>(way: &Edge<'_, A>, register: u8, equality: &Option<Equ
     match equality {
         None => Unshown::Untold,
         Some(equality) => Unshown::Equality {
-            known: number_on(way, register),
+            register,
+            known: sum_of(way.form_on(register)),
             wanted: sum_stated(equality),
             there: sum_of(sum_on(way, equality)),
         },
@@ -181,23 +188,6 @@ fn first_vector<'a, A: Allocator>(
     facts.iter().find(|fact| !is_vector_shown(way, **fact))
 }
 
-/// The fact on a group that begins at a register.
-fn fact_at(register: u8, groups: &[VectorFact]) -> Option<&VectorFact>
-    ensures { option_map (λ fact. fact.now) result ≡ group_at_of register groups.now }
-{
-    groups.iter().find(|fact| fact.register == register)
-}
-
-/// What is known of a group that begins at a register.
-fn group_at(register: u8, groups: &[VectorFact]) -> Option<VectorFact>
-    ensures { result ≡ group_at_of register groups.now }
-{
-    match fact_at(register, groups) {
-        None => None,
-        Some(fact) => Some(*fact),
-    }
-}
-
 /// The first fact on vector registers that is not shown.
 #[tactic(auto, unfolding(crate::specs::Unshown::unshown_vector))]
 fn unshown_vector<A: Allocator>(way: &Edge<'_, A>, facts: &[VectorFact]) -> Unshown
@@ -214,15 +204,24 @@ fn unshown_vector<A: Allocator>(way: &Edge<'_, A>, facts: &[VectorFact]) -> Unsh
 }
 
 /// A budget that is not shown, where the block that is left has one.
-#[tactic(auto, unfolding(crate::specs::Unshown::unshown_budget))]
 fn unshown_budget<A: Allocator>(own: Option<Budget>, way: &Edge<'_, A>, next: Budget) -> Unshown
     ensures { result ≡ unshown_budget_of own way.now next }
 {
     match own {
         None => Unshown::Untold,
-        Some(own) => Unshown::Budget {
-            left: least_left(way, own),
-            asked: most_asked(way, next),
+        Some(own) => Unshown::Budget(gap_on(way, own, next)),
+    }
+}
+
+/// The vector type that a block states, if it states one, beside the one that is known.
+fn unshown_vtype<A: Allocator>(way: &Edge<'_, A>, wanted: Option<u8>) -> Unshown
+    ensures { result ≡ unshown_vtype_of way.now wanted }
+{
+    match wanted {
+        None => Unshown::Untold,
+        Some(wanted) => Unshown::Vtype {
+            known: way.vtype(),
+            wanted,
         },
     }
 }
@@ -243,11 +242,11 @@ pub(crate) fn unshown_in<A: Allocator>(
         CheckError::OrderNotProved(_) => unshown_order(way, block.orders.as_slice()),
         CheckError::VectorFactNotProved(_) => unshown_vector(way, block.vectors.as_slice()),
         CheckError::BudgetNotProved(_) => unshown_budget(own, way, block.budget),
+        CheckError::VtypeUnknown(_) => unshown_vtype(way, block.vtype),
         CheckError::WrongVlen
         | CheckError::NoEntryBlock
         | CheckError::NotCode(_)
         | CheckError::IllegalWord(_)
-        | CheckError::VtypeUnknown(_)
         | CheckError::AccessNotProved(_)
         | CheckError::ReadOnly(_)
         | CheckError::TargetNotABlock(_)
@@ -272,57 +271,50 @@ impl fmt::Display for Number {
     }
 }
 
-/// The sum that is wanted of a register, and again in numbers of the block that the way leaves.
+/// What is known of a register as a sum, the sum that is wanted, and that again in numbers of the block that the way leaves.
 #[derive(Clone, Copy)]
-struct WantedSums<'a> {
+struct SumLines<'a> {
     register: u8,
+    known: &'a Sum<8>,
     wanted: &'a Sum<8>,
     there: &'a Sum<64>,
 }
 
-impl fmt::Display for WantedSums<'_> {
+impl fmt::Display for SumLines<'_> {
     ghost use Rattle.std.specs.Prelude.{◌++◌, Some};
-    ghost use Rattle.check_reasons.specs.Unshown.{there_line, wanted_sum};
+    ghost use Rattle.check_reasons.specs.Unshown.{sum_line, there_line, wanted_sum};
 
-    ghost output = { λ sums. Some (wanted_sum sums.register sums.wanted.now
-        ++ there_line sums.there.now) };
+    ghost output = { λ sums. Some (sum_line sums.register sums.known.now
+        ++ (wanted_sum sums.register sums.wanted.now ++ there_line sums.there.now)) };
 
     fn fmt<W: fmt::Write>(&self, f: &mut fmt::Formatter<W>) -> fmt::Result {
         let name = Name(self.register);
-        let WantedSums { wanted, there, .. } = *self;
+        let SumLines {
+            known,
+            wanted,
+            there,
+            ..
+        } = *self;
+        writeln!(f, "  known: {name} = {known}")?;
         writeln!(f, "  wanted on entering it: {name} = {wanted}")?;
         writeln!(f, "  that sum on this way: {there}")
     }
 }
 
-/// A fact on vector registers: its group, and what it states of the elements. A count of 0 stands for vl of them.
+/// A vector type that is known, and the one that is wanted.
 #[derive(Clone, Copy)]
-struct Vector(VectorFact);
+struct VtypeLines(Option<u8>, u8);
 
-impl fmt::Display for Vector {
+impl fmt::Display for VtypeLines {
     ghost use Rattle.std.specs.Prelude.{Some};
-    ghost use Rattle.check_reasons.specs.Unshown.{vector_text};
+    ghost use Rattle.check_reasons.specs.Unshown.{vtype_lines};
 
-    ghost output = { λ vector. Some (vector_text vector.0) };
+    ghost output = { λ lines. Some (vtype_lines lines.0 lines.1) };
 
-    #[tactic(auto, unfolding(crate::specs::Unshown::vector_text, crate::specs::Unshown::count_text))]
     fn fmt<W: fmt::Write>(&self, f: &mut fmt::Formatter<W>) -> fmt::Result {
-        let VectorFact {
-            register,
-            registers,
-            width,
-            count,
-            low,
-            high,
-            ..
-        } = self.0;
-        let range = Span(Range { lo: low, hi: high });
-        write!(f, "v{register}, registers {registers}, SEW {width}")?;
-        if count == 0 {
-            write!(f, ": vl elements in {range}")
-        } else {
-            write!(f, ": {count} elements in {range}")
-        }
+        let known = KnownVtype(self.0);
+        let wanted = VtypeText(self.1);
+        write!(f, "  known: {known}\n  wanted on entering it: {wanted}\n")
     }
 }
 
@@ -347,26 +339,6 @@ impl fmt::Display for KnownGroup {
     }
 }
 
-/// What is left of a budget at least, and what is asked of it at most, a line each.
-#[derive(Clone, Copy)]
-struct BudgetLines(u128, u128);
-
-impl fmt::Display for BudgetLines {
-    ghost use Rattle.std.specs.Prelude.{◌++◌, Some};
-    ghost use Rattle.check_reasons.specs.Unshown.{asked_line, left_line};
-
-    ghost output = { λ lines. Some (left_line lines.0 ++ asked_line lines.1) };
-
-    fn fmt<W: fmt::Write>(&self, f: &mut fmt::Formatter<W>) -> fmt::Result {
-        let BudgetLines(left, asked) = *self;
-        writeln!(f, "  known: the budget left is at least {left}")?;
-        writeln!(
-            f,
-            "  known: these words and the budget entered are at most {asked}"
-        )
-    }
-}
-
 impl fmt::Display for Unshown {
     ghost use Rattle.std.specs.Prelude.{Some};
     ghost use Rattle.check_reasons.specs.Unshown.{unshown_text};
@@ -382,17 +354,23 @@ impl fmt::Display for Unshown {
                 let range = Span(*wanted);
                 writeln!(f, "{known}  wanted on entering it: {name} in {range}")
             }
+            Unshown::Vtype { known, wanted } => {
+                let lines = VtypeLines(*known, *wanted);
+                write!(f, "{lines}")
+            }
             Unshown::Equality {
+                register,
                 known,
                 wanted,
                 there,
             } => {
-                let wanted = WantedSums {
-                    register: known.register,
+                let lines = SumLines {
+                    register: *register,
+                    known,
                     wanted,
                     there,
                 };
-                write!(f, "{known}{wanted}")
+                write!(f, "{lines}")
             }
             Unshown::Order { lesser, greater } => {
                 let less = Name(lesser.register);
@@ -410,10 +388,7 @@ impl fmt::Display for Unshown {
                 writeln!(f, "  known: {vl} in {range}")?;
                 writeln!(f, "{known}  wanted on entering it: {wanted}")
             }
-            Unshown::Budget { left, asked } => {
-                let lines = BudgetLines(*left, *asked);
-                write!(f, "{lines}")
-            }
+            Unshown::Budget(gap) => write!(f, "{gap}"),
         }
     }
 }

@@ -1,10 +1,12 @@
 -- Why bytes are no certificate: where reading stopped, and in which words it is told.
-use Rattle.std.specs.Prelude.{◌≡◌, ◌≢◌, ◌⊎◌, ℕ, ◌++◌, List, [], length, codes, Option, Some, None, Err}
+use Rattle.std.specs.Prelude.{◌≡◌, ◌≢◌, ◌⊎◌, ℕ, ◌++◌, ◌-◌, ◌==◌, if◌then◌else◌, List, [], length, codes, Option, Some, None, Err}
 use Rattle.std.specs.Fmt.{decimal}
+use Rattle.std.specs.List.{slice_get}
 use Rattle.cert_note.specs.Reading.{certificate_of, IsFaultBlock, IsFaultPlace}
 use Rattle.cert_note.specs.declared.refusals.CertError.{CertError}
 use Rattle.cert_note.specs.declared.refusals.CertError.TheVariants as error
 use Rattle.cert_note.specs.declared.refusals.CertRefusal.{CertRefusal}
+use Rattle.explanations.specs.Address.{byte_text}
 use Rattle.explanations.specs.declared.certificate.CertificateReason.{CertificateReason}
 
 -- reading these bytes tells this error
@@ -22,6 +24,11 @@ IsOfBytes e = e ≢ error.NoMemory
 abbrev pub IsPlace : List ℕ → CertError → ℕ → Type 0
 IsPlace = IsFaultPlace
 
+-- the byte in front of a place; none where there is no place, or nothing in front of it
+abbrev pub last_byte : List ℕ → Option ℕ → Option ℕ
+last_byte bytes None = None
+last_byte bytes (Some place) = if place == 0 then None else slice_get bytes (place - 1)
+
 abbrev pub IfFound : (ℕ → Type 0) → Type 0 → Option ℕ → Type 0
 IfFound Found NotFound None = NotFound
 IfFound Found NotFound (Some n) = Found n
@@ -34,30 +41,42 @@ pub record IsReason (bytes : List ℕ) (e : CertError) (told : CertificateReason
   pub fault : told.error ≡ e
   pub size : told.size ≡ length bytes
   pub place : (e ≡ error.NoMemory) ⊎ (IsPlaced bytes e told)
+  pub last : told.last ≡ last_byte bytes told.place
   pub block : IsTold bytes e → IsFaultBlock bytes told.block
   pub untold : IsUntold bytes e → told.block ≡ None
 
 -- the reason by what reading kept
-abbrev pub reason_of : ℕ → CertRefusal → CertificateReason
-reason_of size refusal = record {
+abbrev pub reason_of : List ℕ → CertRefusal → CertificateReason
+reason_of bytes refusal = record {
   error = refusal.error;
-  size = size;
+  size = length bytes;
   place = refusal.place;
+  last = last_byte bytes refusal.place;
   block = refusal.block;
 }
 
 -- ---- the words
 
+-- what is wanted where a fact is wrong: of the vector type, of a register, of vector registers
+abbrev pub fact_wanted : List ℕ
+fact_wanted = codes "  wanted: for the vtype 0 and 0, or 1 and a supported one\n"
+    ++ (codes "  or: a register of 1 to 32 above the one before, an interval, "
+    ++ (codes "an equality if it is of all numbers\n"
+    ++ (codes "  or: a group behind the one before, its width, its count, zeros, "
+    ++ codes "an interval not of all numbers\n")))
+
 abbrev pub wanted : CertError → List ℕ
 wanted error.Short = codes "  wanted: more bytes\n"
-wanted error.Version = codes "  wanted: version 1 or 2, and a vector length of 1, 2 or 3\n"
-wanted error.Parameter = codes "  wanted: a kind of 0 to 2, its mode, and its numbers\n"
+wanted error.Version = codes "  wanted: version 1 or 2, then 1, 2 or 3 for VLEN 128, 256 or 512\n"
+wanted error.Parameter = codes "  wanted: a kind of 0 to 2, a mode (of a buffer 1 or 3, else 0), "
+    ++ codes "zeros, and its numbers\n"
 wanted error.BlockOrder = codes "  wanted: a multiple of 4 above the start of the block before\n"
-wanted error.Fact = codes "  wanted: a rising number, an interval that says something, zeros\n"
+wanted error.Fact = fact_wanted
 wanted error.Equality = codes "  wanted: at most 8 terms, rising atoms without an equality\n"
 wanted error.Budget = codes "  wanted: a register exactly where its factor is not 0\n"
 wanted error.TrailingBytes = codes "  wanted: no bytes behind the last block\n"
-wanted error.TooMany = codes "  wanted: at most 1024 blocks, at most 32 facts of a kind, zeros\n"
+wanted error.TooMany = codes "  wanted: at most 1024 blocks, or at most 32 facts of a kind, "
+    ++ codes "or a zero behind these counts\n"
 wanted error.Order = codes "  wanted: two registers without an equality, the greater one rising\n"
 wanted error.NoMemory = []
 
@@ -66,6 +85,10 @@ place_line None size = []
 place_line (Some place) size = codes "  reading stopped behind byte "
     ++ (decimal place ++ (codes " of " ++ (decimal size ++ codes "\n")))
 
+abbrev pub last_line : Option ℕ → List ℕ
+last_line None = []
+last_line (Some byte) = codes "  the last byte read: 0x" ++ (byte_text byte ++ codes "\n")
+
 abbrev pub block_line : Option ℕ → List ℕ
 block_line None = []
 block_line (Some block) = codes "  in block " ++ (decimal block ++ codes ", counted from 0\n")
@@ -73,4 +96,5 @@ block_line (Some block) = codes "  in block " ++ (decimal block ++ codes ", coun
 -- the lines of a reason
 abbrev pub certificate_text : CertificateReason → List ℕ
 certificate_text told =
-    place_line told.place told.size ++ (block_line told.block ++ wanted told.error)
+    place_line told.place told.size
+    ++ (last_line told.last ++ (block_line told.block ++ wanted told.error))

@@ -1,7 +1,8 @@
 -- Program headers of a file, as they are told.
-use Rattle.std.specs.Prelude.{◌≡◌, ◌<◌, ℕ, ◌&&◌, ◌++◌, Bool, true, false, List, codes, length, nat_lt}
+use Rattle.std.specs.Prelude.{◌≡◌, ◌<◌, ℕ, ◌+◌, ◌&&◌, ◌++◌, Bool, true, false, List, [], codes, length, nat_lt}
 use Rattle.std.specs.Fmt.{decimal}
-use Rattle.elf_image.specs.File.{e_phnum, header_offset, is_segment, program_header_at}
+use Rattle.std.specs.List.{flat_map}
+use Rattle.elf_image.specs.File.{e_phnum, header_offset, is_executable, is_readable, is_segment, is_writable, program_header_at}
 use Rattle.elf_image.specs.Faults.{is_dynamic, is_out_of_file, is_out_of_place, is_write_and_execute, overlap}
 use Rattle.elf_image.specs.declared.header.ProgramHeader.{ProgramHeader}
 use Rattle.explanations.specs.Address.{address_text}
@@ -78,6 +79,34 @@ size_line h = codes "  p_filesz " ++ (decimal h.p_filesz ++ (codes ", p_memsz "
 
 unfoldable pub header_text : Header → List ℕ
 header_text h = place_line h ++ (address_line h.fields ++ size_line h.fields)
+
+-- what may be done in a segment, by three rights
+abbrev pub rights_in : Bool → Bool → Bool → List ℕ
+rights_in true true true = codes "read, write, execute"
+rights_in true true false = codes "read, write"
+rights_in true false true = codes "read, execute"
+rights_in true false false = codes "read"
+rights_in false true true = codes "write, execute"
+rights_in false true false = codes "write"
+rights_in false false true = codes "execute"
+rights_in false false false = codes "neither read nor write nor execute"
+
+abbrev pub rights_text : ProgramHeader → List ℕ
+rights_text h = rights_in (is_readable h) (is_writable h) (is_executable h)
+
+abbrev pub segment_line : ProgramHeader → List ℕ
+segment_line h = codes "  segment from " ++ (address_text h.p_vaddr ++ (codes " and below "
+    ++ (address_text (h.p_vaddr + h.p_memsz) ++ (codes ": " ++ (rights_text h ++ codes "\n")))))
+
+unfoldable pub segment_lines : List ProgramHeader → List ℕ
+segment_lines segments = flat_map segment_line segments
+
+-- the size of the file, where the rule is on it
+abbrev pub file_line : SegmentRule → ℕ → List ℕ
+file_line rule.Static size = []
+file_line rule.InFile size = codes "  size of the file: " ++ (decimal size ++ codes "\n")
+file_line rule.InPlace size = []
+file_line rule.WriteOrExecute size = []
 
 abbrev pub rule_text : SegmentRule → List ℕ
 rule_text rule.Static = codes "  wanted: no p_type 2, 3 or 7\n  remedy: link with -static\n"

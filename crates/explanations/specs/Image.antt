@@ -1,21 +1,24 @@
 -- Why a file is no image that runs: which number of it is told, and in which words.
 use Rattle.std.specs.Prelude.{◌≡◌, ℕ, ◌==◌, ◌++◌, not, nat_lt, ◌||◌, List, [], bit_and, codes, length, if◌then◌else◌}
 use Rattle.std.specs.Fmt.{decimal}
-use Rattle.std.specs.List.{slice_index}
+use Rattle.std.specs.List.{slice_index, sum_by}
 use Rattle.elf_image.specs.Words.{word_at}
-use Rattle.elf_image.specs.File.{HasTable, e_ehsize, e_entry, e_flags, e_machine, e_phentsize, e_phnum, e_phoff, e_type, e_version}
-use Rattle.elf_image.specs.Faults.{is_too_short}
+use Rattle.elf_image.specs.File.{HasTable, segment_headers, e_ehsize, e_entry, e_flags, e_machine, e_phentsize, e_phnum, e_phoff, e_type, e_version}
+use Rattle.elf_image.specs.Faults.{is_too_large, is_too_short}
 use Rattle.elf_image.specs.declared.faults.TheConstants.{EI_CLASS, EI_DATA, EI_VERSION, ELF_HEADER_SIZE, ELFCLASS32, ELFDATA2LSB, EM_RISCV, ET_EXEC, EV_CURRENT}
 use Rattle.elf_image.specs.declared.header.TheConstants.{E_TYPE, E_MACHINE, E_VERSION, E_ENTRY, E_PHOFF, E_FLAGS, E_EHSIZE, E_PHENTSIZE, E_PHNUM, MAX_PROGRAM_HEADERS, PROGRAM_HEADER_SIZE}
 use Rattle.elf_image.specs.declared.layout.TheConstants.{MAX_FILE_SIZE, MAX_MEMORY_SIZE, MAX_SEGMENTS}
 use Rattle.elf_image.specs.declared.error.ElfError.{ElfError}
+use Rattle.elf_image.specs.declared.header.ProgramHeader.{ProgramHeader}
 use Rattle.elf_image.specs.declared.error.ElfError.TheVariants as error
 use Rattle.explanations.specs.Address.{address_text}
-use Rattle.explanations.specs.Headers.{AreApart, AreOverlapping, IsFirst, NoneBreaks, header_text, rule_text}
+use Rattle.explanations.specs.Headers.{AreApart, AreOverlapping, IsFirst, NoneBreaks, file_line, header_text, rule_text, segment_lines}
 use Rattle.explanations.specs.declared.headers.SegmentRule.{SegmentRule}
 use Rattle.explanations.specs.declared.headers.SegmentRule.TheVariants as rule
 use Rattle.explanations.specs.declared.image.ElfField.{ElfField}
 use Rattle.explanations.specs.declared.image.ElfField.TheVariants as field
+use Rattle.explanations.specs.declared.image.Excess.{Excess}
+use Rattle.explanations.specs.declared.image.Excess.TheVariants as excess
 use Rattle.explanations.specs.declared.image.ImageReason.{ImageReason}
 use Rattle.explanations.specs.declared.image.ImageReason.TheVariants as reason
 
@@ -82,12 +85,14 @@ table_field file =
 
 -- the first program header that breaks a rule; nothing only where none does
 abbrev pub TellsSegment : List ℕ → SegmentRule → ImageReason → Type 0
-TellsSegment file rule (reason.Segment broken header) = (broken ≡ rule) × IsFirst rule file header
+TellsSegment file rule (reason.Segment broken size header) =
+    (broken ≡ rule) × (size ≡ length file) × IsFirst rule file header
 TellsSegment file rule reason.Untold = HasTable file → NoneBreaks rule file (e_phnum file)
 TellsSegment file rule (reason.Short size) = ⊥
 TellsSegment file rule (reason.Field f offset value) = ⊥
+TellsSegment file rule (reason.NoCode entry segments) = ⊥
 TellsSegment file rule (reason.Overlap first second) = ⊥
-TellsSegment file rule (reason.Large size) = ⊥
+TellsSegment file rule (reason.Large e) = ⊥
 TellsSegment file rule reason.Certificates = ⊥
 TellsSegment file rule reason.CertificateThere = ⊥
 
@@ -97,10 +102,42 @@ TellsOverlap file (reason.Overlap first second) = AreOverlapping file first seco
 TellsOverlap file reason.Untold = HasTable file → AreApart file (e_phnum file)
 TellsOverlap file (reason.Short size) = ⊥
 TellsOverlap file (reason.Field f offset value) = ⊥
-TellsOverlap file (reason.Segment broken header) = ⊥
-TellsOverlap file (reason.Large size) = ⊥
+TellsOverlap file (reason.NoCode entry segments) = ⊥
+TellsOverlap file (reason.Segment broken size header) = ⊥
+TellsOverlap file (reason.Large e) = ⊥
 TellsOverlap file reason.Certificates = ⊥
 TellsOverlap file reason.CertificateThere = ⊥
+
+-- the first of a file's size, the number of its segments and their memory that is too large
+abbrev pub first_excess : ℕ → List ProgramHeader → Excess
+first_excess size segments =
+    if nat_lt MAX_FILE_SIZE size then excess.File size
+    else (if nat_lt MAX_SEGMENTS (length segments) then excess.Segments (length segments)
+    else excess.Memory (sum_by (λ h. h.p_memsz) segments))
+
+-- the same of a file that is too large, and nothing of any other
+abbrev pub told_excess : ℕ → List ProgramHeader → ImageReason
+told_excess size segments =
+    if is_too_large size segments then reason.Large (first_excess size segments)
+    else reason.Untold
+
+-- which of the three is told; nothing where the file has no table of program headers
+pub record TellsLarge (file : List ℕ) (told : ImageReason) : Type 0 where
+  pub table : HasTable file → told ≡ told_excess (length file) (segment_headers file)
+  pub without : ¬ (HasTable file) → told ≡ reason.Untold
+
+-- the entry and the segments; nothing only where the file has no table of program headers
+abbrev pub TellsEntry : List ℕ → ImageReason → Type 0
+TellsEntry file (reason.NoCode entry segments) =
+    (entry ≡ e_entry file) × (segments.items ≡ segment_headers file)
+TellsEntry file reason.Untold = ¬ (HasTable file)
+TellsEntry file (reason.Short size) = ⊥
+TellsEntry file (reason.Field f offset value) = ⊥
+TellsEntry file (reason.Segment broken size header) = ⊥
+TellsEntry file (reason.Overlap first second) = ⊥
+TellsEntry file (reason.Large e) = ⊥
+TellsEntry file reason.Certificates = ⊥
+TellsEntry file reason.CertificateThere = ⊥
 
 -- what is told of a file that is refused with an error
 abbrev pub Tells : List ℕ → ElfError → ImageReason → Type 0
@@ -116,8 +153,8 @@ Tells file error.SegmentOutOfFile told = TellsSegment file rule.InFile told
 Tells file error.SegmentOutOfPlace told = TellsSegment file rule.InPlace told
 Tells file error.SegmentsOverlap told = TellsOverlap file told
 Tells file error.WriteAndExecute told = TellsSegment file rule.WriteOrExecute told
-Tells file error.TooLarge told = told ≡ reason.Large (length file)
-Tells file error.EntryNotCode told = told ≡ told_field file field.Entry
+Tells file error.TooLarge told = TellsLarge file told
+Tells file error.EntryNotCode told = TellsEntry file told
 Tells file error.TwoCertificates told = told ≡ reason.Certificates
 Tells file error.CertificateThere told = told ≡ reason.CertificateThere
 Tells file error.NoMemory told = told ≡ reason.Untold
@@ -168,18 +205,24 @@ wanted field.EntrySize value = codes "  wanted: " ++ (decimal PROGRAM_HEADER_SIZ
 wanted field.EntryCount value =
     codes "  wanted: 1 to " ++ (decimal MAX_PROGRAM_HEADERS ++ codes "\n")
 
-abbrev pub large_wanted : List ℕ
-large_wanted = codes "  wanted: at most " ++ (decimal MAX_FILE_SIZE
-    ++ (codes ", at most " ++ (decimal MAX_SEGMENTS
-    ++ (codes " segments, and at most " ++ (decimal MAX_MEMORY_SIZE
-    ++ codes " bytes of memory\n")))))
-
 abbrev pub field_place : ElfField → ℕ → List ℕ
 field_place f offset = codes "  " ++ (field_name f ++ (codes " at byte "
     ++ (decimal offset ++ codes " of the file: ")))
 
 abbrev pub field_number : ℕ → List ℕ
 field_number value = decimal value ++ (codes " (" ++ (address_text value ++ codes ")\n"))
+
+abbrev pub excess_text : Excess → List ℕ
+excess_text (excess.File size) = codes "  size of the file: "
+    ++ (decimal size ++ (codes "\n  wanted: at most " ++ (decimal MAX_FILE_SIZE ++ codes "\n")))
+excess_text (excess.Segments count) = codes "  segments: "
+    ++ (decimal count ++ (codes "\n  wanted: at most " ++ (decimal MAX_SEGMENTS ++ codes "\n")))
+excess_text (excess.Memory size) = codes "  bytes of memory of its segments: "
+    ++ (decimal size ++ (codes "\n  wanted: at most " ++ (decimal MAX_MEMORY_SIZE ++ codes "\n")))
+
+abbrev pub entry_text : ℕ → List ProgramHeader → List ℕ
+entry_text entry segments = field_place field.Entry (offset_of field.Entry)
+    ++ (field_number entry ++ (segment_lines segments ++ wanted field.Entry entry))
 
 -- the lines of a reason
 abbrev pub image_text : ImageReason → List ℕ
@@ -189,10 +232,11 @@ image_text (reason.Short size) = codes "  size of the file: "
     ++ (decimal ELF_HEADER_SIZE ++ codes ", an ELF header\n")))
 image_text (reason.Field f offset value) =
     field_place f offset ++ (field_number value ++ wanted f value)
-image_text (reason.Segment broken header) = header_text header ++ rule_text broken
+image_text (reason.NoCode entry segments) = entry_text entry segments.items
+image_text (reason.Segment broken size header) =
+    header_text header ++ (file_line broken size ++ rule_text broken)
 image_text (reason.Overlap first second) =
     header_text first ++ (header_text second ++ codes "  wanted: no address of both\n")
-image_text (reason.Large size) =
-    codes "  size of the file: " ++ (decimal size ++ (codes "\n" ++ large_wanted))
+image_text (reason.Large e) = excess_text e
 image_text reason.Certificates = codes "  wanted: one note with a certificate\n"
 image_text reason.CertificateThere = codes "  wanted: an image with no certificate\n"

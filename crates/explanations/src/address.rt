@@ -1,4 +1,4 @@
-//! Addresses and words, as they are told.
+//! Addresses, words and bytes, as they are told.
 use region_mem::Digits;
 use std::fmt;
 
@@ -14,5 +14,21 @@ impl fmt::Display for Address {
 
     fn fmt<W: fmt::Write>(&self, f: &mut fmt::Formatter<W>) -> fmt::Result {
         write!(f, "0x{}", Digits(self.0))
+    }
+}
+
+/// A byte, which is told as two digits of base 16.
+#[derive(Clone, Copy, PartialEq, Eq)]
+pub struct Byte(pub u8);
+
+impl fmt::Display for Byte {
+    ghost use Rattle.std.specs.Prelude.{Some};
+    ghost use Rattle.explanations.specs.Address.{byte_text};
+
+    ghost output = { λ byte. Some (byte_text byte.0) };
+
+    fn fmt<W: fmt::Write>(&self, f: &mut fmt::Formatter<W>) -> fmt::Result {
+        let byte = self.0;
+        write!(f, "{byte:02x}")
     }
 }

@@ -1,11 +1,18 @@
 //! Program headers of a file, as they are told.
-ghost use Rattle.std.specs.Prelude.{◌≡◌, ◌<◌, IfSome, IfNone, true};
-ghost use Rattle.elf_image.specs.File.{HasTable, e_phnum};
+ghost use Rattle.std.specs.Prelude.{◌≡◌, ◌<◌, ◌≤◌, ◌+◌, ◌++◌, ◌∷◌, [], IfSome, IfNone, true};
+ghost use Rattle.std.specs.Prelude.{if◌then◌else◌};
+ghost use Rattle.arrayvec.specs.ArrayVec.{array_vec_len};
+ghost use Rattle.elf_image.specs.File.{HasTable, e_phnum, is_segment, segment_headers};
+ghost use Rattle.elf_image.specs.declared.header.TheConstants.{MAX_PROGRAM_HEADERS};
 ghost use Rattle.explanations.specs.Headers.{AreApart, AreOverlapping, IsFirst, IsHeader};
 ghost use Rattle.explanations.specs.Headers.{NoneBreaks, NoneOverlaps, are_overlapping, breaks};
+ghost use Rattle.explanations.specs.Headers.{rights_text};
 
 use crate::address::Address;
-use elf_image::{E_PHNUM, ProgramHeader, half_at, header_offset, program_header_at};
+use arrayvec::ArrayVec;
+use elf_image::{
+    E_PHNUM, MAX_PROGRAM_HEADERS, ProgramHeader, half_at, header_offset, program_header_at,
+};
 use std::fmt;
 
 /// A rule that each program header has to meet.
@@ -42,6 +49,32 @@ fn header_at(file: &[u8], number: usize) -> Header
         offset,
         fields: program_header_at(offset, file),
     }
+}
+
+/// Appends a program header, if it is that of a segment.
+fn add_segment(segments: &mut ArrayVec<ProgramHeader, MAX_PROGRAM_HEADERS>, header: ProgramHeader)
+    requires { array_vec_len segments.old < MAX_PROGRAM_HEADERS }
+    ensures items { segments.new.items ≡ segments.old.items
+        ++ (if is_segment header then header ∷ [] else []) }
+    ensures len { array_vec_len segments.new ≤ array_vec_len segments.old + 1 }
+{
+    if header.is_segment() {
+        segments.push(header);
+    }
+}
+
+/// The program headers of the segments of a file, in their order.
+#[tactic(auto, unfolding(elf_image::specs::File::program_headers))]
+pub(crate) fn segment_headers(file: &[u8]) -> ArrayVec<ProgramHeader, MAX_PROGRAM_HEADERS>
+    requires { HasTable file.now }
+    ensures { result.items ≡ segment_headers file.now }
+{
+    let mut segments = ArrayVec::new();
+    for number in 0..usize::from(half_at(E_PHNUM, file)) {
+        let offset = header_offset(number, file);
+        add_segment(&mut segments, program_header_at(offset, file));
+    }
+    segments
 }
 
 /// Whether a header breaks a rule, in a file of this size.
@@ -172,6 +205,88 @@ impl fmt::Display for Header {
         let size = SizeLine(fields);
         writeln!(f, "  program header {number} at byte {offset} of the file:")?;
         write!(f, "{address}{size}")
+    }
+}
+
+/// What may be done in a segment.
+fn rights(header: ProgramHeader) -> &'static str
+    ensures { result.now ≡ rights_text header }
+{
+    let flags = header.p_flags;
+    match (flags & 4 != 0, flags & 2 != 0, flags & 1 != 0) {
+        (true, true, true) => "read, write, execute",
+        (true, true, false) => "read, write",
+        (true, false, true) => "read, execute",
+        (true, false, false) => "read",
+        (false, true, true) => "write, execute",
+        (false, true, false) => "write",
+        (false, false, true) => "execute",
+        (false, false, false) => "neither read nor write nor execute",
+    }
+}
+
+/// A segment, as a line: its addresses and what may be done in it.
+#[derive(Clone, Copy)]
+struct SegmentLine(ProgramHeader);
+
+impl fmt::Display for SegmentLine {
+    ghost use Rattle.std.specs.Prelude.{Some};
+    ghost use Rattle.explanations.specs.Headers.{segment_line};
+
+    ghost output = { λ line. Some (segment_line line.0) };
+
+    fn fmt<W: fmt::Write>(&self, f: &mut fmt::Formatter<W>) -> fmt::Result {
+        let ProgramHeader {
+            p_vaddr,
+            p_memsz,
+            ..
+        } = self.0;
+        let first = Address(u64::from(p_vaddr));
+        let end = Address(u64::from(p_vaddr) + u64::from(p_memsz));
+        let rights = rights(self.0);
+        writeln!(f, "  segment from {first} and below {end}: {rights}")
+    }
+}
+
+/// The segments, a line each.
+#[derive(Clone, Copy)]
+pub(crate) struct SegmentLines<'a>(pub(crate) &'a [ProgramHeader]);
+
+impl fmt::Display for SegmentLines<'_> {
+    ghost use Rattle.std.specs.Prelude.{Some};
+    ghost use Rattle.explanations.specs.Headers.{segment_lines};
+
+    ghost output = { λ lines. Some (segment_lines lines.0.now) };
+
+    #[tactic(auto, unfolding(crate::specs::Headers::segment_lines))]
+    fn fmt<W: fmt::Write>(&self, f: &mut fmt::Formatter<W>) -> fmt::Result {
+        for segment in self.0 {
+            let line = SegmentLine(*segment);
+            write!(f, "{line}")?;
+        }
+        Ok(())
+    }
+}
+
+/// The line that tells the size of the file, where the rule is on it.
+#[derive(Clone, Copy)]
+pub(crate) struct FileLine {
+    pub(crate) rule: SegmentRule,
+    pub(crate) size: usize,
+}
+
+impl fmt::Display for FileLine {
+    ghost use Rattle.std.specs.Prelude.{Some};
+    ghost use Rattle.explanations.specs.Headers.{file_line};
+
+    ghost output = { λ line. Some (file_line line.rule line.size) };
+
+    fn fmt<W: fmt::Write>(&self, f: &mut fmt::Formatter<W>) -> fmt::Result {
+        let FileLine { rule, size } = *self;
+        match rule {
+            SegmentRule::InFile => writeln!(f, "  size of the file: {size}"),
+            SegmentRule::Static | SegmentRule::InPlace | SegmentRule::WriteOrExecute => Ok(()),
+        }
     }
 }
 

@@ -1,17 +1,20 @@
 //! Why a file is no image that runs: which number of it, where, and what is wanted there.
 ghost use Rattle.std.specs.Prelude.{◌≡◌, ◌≤◌, length};
-ghost use Rattle.explanations.specs.Image.{Tells, TellsOverlap, TellsSegment, flags_wanted};
+ghost use Rattle.elf_image.specs.declared.header.TheConstants.{MAX_PROGRAM_HEADERS};
+ghost use Rattle.explanations.specs.Image.{Tells, TellsEntry, TellsLarge, TellsOverlap};
+ghost use Rattle.explanations.specs.Image.{TellsSegment, flags_wanted, told_excess};
 ghost use Rattle.explanations.specs.Image.{ident_field, number_in, offset_of, table_field};
 ghost use Rattle.explanations.specs.Image.{told_field, type_field};
 
 use crate::address::Address;
 use crate::headers;
-use crate::headers::{Header, SegmentRule};
+use crate::headers::{FileLine, Header, SegmentLines, SegmentRule};
+use arrayvec::ArrayVec;
 use elf_image::{
     E_EHSIZE, E_ENTRY, E_FLAGS, E_MACHINE, E_PHENTSIZE, E_PHNUM, E_PHOFF, E_TYPE, E_VERSION,
     EI_CLASS, EI_DATA, EI_VERSION, ELF_HEADER_SIZE, ELFCLASS32, ELFDATA2LSB, EM_RISCV, ET_EXEC,
     EV_CURRENT, ElfError, MAX_FILE_SIZE, MAX_MEMORY_SIZE, MAX_PROGRAM_HEADERS, MAX_SEGMENTS,
-    PROGRAM_HEADER_SIZE, half_at, has_table, is_too_short, word_at,
+    PROGRAM_HEADER_SIZE, ProgramHeader, half_at, has_table, is_too_short, word_at,
 };
 use std::fmt;
 
@@ -46,8 +49,19 @@ pub enum ElfField {
     EntryCount,
 }
 
-/// Why a file is no image that runs.
+/// Of what a file has too much.
 #[derive(Clone, Copy, PartialEq, Eq)]
+pub enum Excess {
+    /// So many bytes.
+    File(usize),
+    /// So many segments.
+    Segments(usize),
+    /// So many bytes of memory, of all its segments together.
+    Memory(u64),
+}
+
+/// Why a file is no image that runs.
+#[derive(Drop)]
 pub enum ImageReason {
     /// There is nothing to tell of the file.
     Untold,
@@ -59,9 +73,15 @@ pub enum ImageReason {
         offset: usize,
         value: u32,
     },
-    /// The first program header that breaks a rule.
+    /// The entry is not in code: the number that stands at its field, and the program headers of the segments.
+    NoCode {
+        entry: u32,
+        segments: ArrayVec<ProgramHeader, MAX_PROGRAM_HEADERS>,
+    },
+    /// The first program header that breaks a rule, in a file of so many bytes.
     Segment {
         rule: SegmentRule,
+        size: usize,
         header: Header,
     },
     /// Two segments that share an address.
@@ -69,8 +89,8 @@ pub enum ImageReason {
         first: Header,
         second: Header,
     },
-    /// The file has so many bytes, and it or its memory is too large.
-    Large(usize),
+    /// The file or its memory is too large.
+    Large(Excess),
     /// The file has more than one certificate.
     Certificates,
     /// The file has a certificate already.
@@ -186,7 +206,11 @@ fn told_segment(file: &[u8], rule: SegmentRule) -> ImageReason
         return ImageReason::Untold;
     }
     match headers::first_breaking(file, rule) {
-        Some(header) => ImageReason::Segment { rule, header },
+        Some(header) => ImageReason::Segment {
+            rule,
+            size: file.len(),
+            header,
+        },
         None => ImageReason::Untold,
     }
 }
@@ -201,6 +225,48 @@ fn told_overlap(file: &[u8]) -> ImageReason
     match headers::first_overlap(file) {
         Some((first, second)) => ImageReason::Overlap { first, second },
         None => ImageReason::Untold,
+    }
+}
+
+/// The first of the file's size, the number of its segments and their memory that is too large, if one is.
+#[tactic(auto, unfolding(elf_image::specs::Faults::is_too_large))]
+fn told_excess(size: usize, segments: &[ProgramHeader]) -> ImageReason
+    requires { length segments.now ≤ MAX_PROGRAM_HEADERS }
+    ensures { result ≡ told_excess size segments.now }
+{
+    let memory: u64 = segments.iter().map(|h| u64::from(h.p_memsz)).sum();
+    if size > MAX_FILE_SIZE {
+        ImageReason::Large(Excess::File(size))
+    } else if segments.len() > MAX_SEGMENTS {
+        ImageReason::Large(Excess::Segments(segments.len()))
+    } else if memory > MAX_MEMORY_SIZE {
+        ImageReason::Large(Excess::Memory(memory))
+    } else {
+        ImageReason::Untold
+    }
+}
+
+/// What is told of a file that is too large.
+fn told_large(file: &[u8]) -> ImageReason
+    ensures { TellsLarge file.now result }
+{
+    if !has_table(file) {
+        return ImageReason::Untold;
+    }
+    let segments = headers::segment_headers(file);
+    told_excess(file.len(), segments.as_slice())
+}
+
+/// What is told of an entry that is not in code.
+fn told_entry(file: &[u8]) -> ImageReason
+    ensures { TellsEntry file.now result }
+{
+    if !has_table(file) {
+        return ImageReason::Untold;
+    }
+    ImageReason::NoCode {
+        entry: word_at(E_ENTRY, file),
+        segments: headers::segment_headers(file),
     }
 }
 
@@ -222,8 +288,8 @@ pub fn image_reason(file: &[u8], error: ElfError) -> ImageReason
         ElfError::SegmentOutOfPlace => told_segment(file, SegmentRule::InPlace),
         ElfError::SegmentsOverlap => told_overlap(file),
         ElfError::WriteAndExecute => told_segment(file, SegmentRule::WriteOrExecute),
-        ElfError::TooLarge => ImageReason::Large(file.len()),
-        ElfError::EntryNotCode => told_field(file, ElfField::Entry),
+        ElfError::TooLarge => told_large(file),
+        ElfError::EntryNotCode => told_entry(file),
         ElfError::TwoCertificates => ImageReason::Certificates,
         ElfError::CertificateThere => ImageReason::CertificateThere,
         ElfError::NoMemory => ImageReason::Untold,
@@ -320,25 +386,6 @@ impl fmt::Display for Wanted {
     }
 }
 
-/// What is wanted of a file and its memory.
-#[derive(Clone, Copy)]
-struct LargeWanted;
-
-impl fmt::Display for LargeWanted {
-    ghost use Rattle.std.specs.Prelude.{Some};
-    ghost use Rattle.explanations.specs.Image.{large_wanted};
-
-    ghost output = { λ _wanted. Some large_wanted };
-
-    fn fmt<W: fmt::Write>(&self, f: &mut fmt::Formatter<W>) -> fmt::Result {
-        write!(
-            f,
-            "  wanted: at most {MAX_FILE_SIZE}, at most {MAX_SEGMENTS} segments, and at most \
-             {MAX_MEMORY_SIZE} bytes of memory\n"
-        )
-    }
-}
-
 /// Where a field stands.
 #[derive(Clone, Copy)]
 struct FieldPlace {
@@ -375,6 +422,58 @@ impl fmt::Display for FieldNumber {
     }
 }
 
+impl fmt::Display for Excess {
+    ghost use Rattle.std.specs.Prelude.{Some};
+    ghost use Rattle.explanations.specs.Image.{excess_text};
+
+    ghost output = { λ excess. Some (excess_text excess) };
+
+    fn fmt<W: fmt::Write>(&self, f: &mut fmt::Formatter<W>) -> fmt::Result {
+        match self {
+            Excess::File(size) => {
+                write!(
+                    f,
+                    "  size of the file: {size}\n  wanted: at most {MAX_FILE_SIZE}\n"
+                )
+            }
+            Excess::Segments(count) => {
+                write!(f, "  segments: {count}\n  wanted: at most {MAX_SEGMENTS}\n")
+            }
+            Excess::Memory(size) => {
+                write!(
+                    f,
+                    "  bytes of memory of its segments: {size}\n  \
+                     wanted: at most {MAX_MEMORY_SIZE}\n"
+                )
+            }
+        }
+    }
+}
+
+/// An entry that is not in code, the segments, and what is wanted.
+#[derive(Clone, Copy)]
+struct EntryLines<'a>(u32, &'a [ProgramHeader]);
+
+impl fmt::Display for EntryLines<'_> {
+    ghost use Rattle.std.specs.Prelude.{Some};
+    ghost use Rattle.explanations.specs.Image.{entry_text};
+
+    ghost output = { λ lines. Some (entry_text lines.0 lines.1.now) };
+
+    fn fmt<W: fmt::Write>(&self, f: &mut fmt::Formatter<W>) -> fmt::Result {
+        let field = ElfField::Entry;
+        let value = self.0;
+        let place = FieldPlace {
+            field,
+            offset: field.offset(),
+        };
+        let number = FieldNumber(value);
+        let segments = SegmentLines(self.1);
+        let wanted = Wanted { field, value };
+        write!(f, "{place}{number}{segments}{wanted}")
+    }
+}
+
 impl fmt::Display for ImageReason {
     ghost use Rattle.std.specs.Prelude.{Some};
     ghost use Rattle.explanations.specs.Image.{image_text};
@@ -382,7 +481,7 @@ impl fmt::Display for ImageReason {
     ghost output = { λ reason. Some (image_text reason) };
 
     fn fmt<W: fmt::Write>(&self, f: &mut fmt::Formatter<W>) -> fmt::Result {
-        match *self {
+        match self {
             ImageReason::Untold => Ok(()),
             ImageReason::Short(size) => {
                 write!(
@@ -395,19 +494,27 @@ impl fmt::Display for ImageReason {
                 offset,
                 value,
             } => {
+                let (field, offset, value) = (*field, *offset, *value);
                 let place = FieldPlace { field, offset };
                 let number = FieldNumber(value);
                 let wanted = Wanted { field, value };
                 write!(f, "{place}{number}{wanted}")
             }
-            ImageReason::Segment { rule, header } => write!(f, "{header}{rule}"),
+            ImageReason::NoCode { entry, segments } => {
+                let lines = EntryLines(*entry, segments.as_slice());
+                write!(f, "{lines}")
+            }
+            ImageReason::Segment { rule, size, header } => {
+                let file = FileLine {
+                    rule: *rule,
+                    size: *size,
+                };
+                write!(f, "{header}{file}{rule}")
+            }
             ImageReason::Overlap { first, second } => {
                 write!(f, "{first}{second}  wanted: no address of both\n")
             }
-            ImageReason::Large(size) => {
-                let wanted = LargeWanted;
-                write!(f, "  size of the file: {size}\n{wanted}")
-            }
+            ImageReason::Large(excess) => write!(f, "{excess}"),
             ImageReason::Certificates => writeln!(f, "  wanted: one note with a certificate"),
             ImageReason::CertificateThere => writeln!(f, "  wanted: an image with no certificate"),
         }

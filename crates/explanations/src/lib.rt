@@ -15,7 +15,7 @@ mod words;
 pub use address::Address;
 pub use certificate::{CertificateReason, certificate_reason, refusal_reason};
 pub use headers::{Header, SegmentRule};
-pub use image::{ElfField, ImageReason, image_reason};
+pub use image::{ElfField, Excess, ImageReason, image_reason};
 pub use make::{LoopRow, MakeReason, attach_reason, parameter_reason, word_reason};
 pub use refusal::Refusal;
 pub use words::{WordLine, listed};

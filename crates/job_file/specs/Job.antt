@@ -1,5 +1,5 @@
 -- Job files: the values that a TOML table gives, or what of it breaks a rule of job files.
-use Rattle.std.specs.Prelude.{◌≡◌, ◌==◌, ◌^◌, ℕ, ℤ, pos, negsuc, Bool, nat_lt, List, [], ◌∷◌, map, Option, Some, None, is_some, option_map, option_and_then, if◌then◌else◌, codes, Result, Ok, Err}
+use Rattle.std.specs.Prelude.{◌≡◌, ◌==◌, ◌^◌, ℕ, ℤ, pos, negsuc, Bool, nat_lt, List, [], ◌∷◌, map, Option, Some, None, is_some, option_map, option_and_then, ok_or, if◌then◌else◌, codes, Result, Ok, Err}
 use Rattle.std.specs.Borrow.{Bor}
 use Rattle.std.specs.List.{list_any}
 use Rattle.std.specs.Option.{option_map_or}
@@ -148,14 +148,18 @@ param_fields t ms kind.Buffer = buffer_fields t ms
 unfoldable pub param_of_kind : JobTable → Members → Kind → Result (JobParam Text) Breach
 param_of_kind t ms k = if_known t (first_unknown (kind_keys k) ms) (param_fields t ms k)
 
--- the kind of a table, where it has one
-abbrev pub kind_in : Members → Option Kind
-kind_in ms = option_and_then kind_of (get_member (key_name key.Kind) ms)
+-- the kind of a table, which has to have one
+abbrev pub kind_in : JobTable → Members → Result Kind Breach
+kind_in t ms = and_then (λ d. wanted t key.Kind (kind_of d))
+    (ok_or (get_member (key_name key.Kind) ms) (breach.NoKind t))
+
+-- the table at a place of `param`, where each has to be one
+abbrev pub table_of : JobTable → Data → Result Members Breach
+table_of t d = ok_or (as_table d) (breach.NoTable t)
 
 -- one `[[param]]` table
 unfoldable pub param_of : JobTable → Data → Result (JobParam Text) Breach
-param_of t d = and_then (λ ms. and_then (param_of_kind t ms) (wanted t key.Kind (kind_in ms)))
-    (wanted t key.Kind (as_table d))
+param_of t d = and_then (λ ms. and_then (param_of_kind t ms) (kind_in t ms)) (table_of t d)
 
 -- the parameter at a place: none where there is no such table
 unfoldable pub param_at : Items → ℕ → Result (JobParam Text) Breach
@@ -237,6 +241,8 @@ job_lent j = record {
 abbrev pub breach_lent : JobBreach (Bor Text) → Breach
 breach_lent (breach.Wrong t k) = breach.Wrong t k
 breach_lent (breach.Unknown t name) = breach.Unknown t name.now
+breach_lent (breach.NoTable t) = breach.NoTable t
+breach_lent (breach.NoKind t) = breach.NoKind t
 breach_lent breach.TooMany = breach.TooMany
 
 -- what is read with texts that are lent, each value as `lent` sees it

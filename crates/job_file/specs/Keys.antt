@@ -35,7 +35,7 @@ key_wanted key.Image = codes "a path"
 key_wanted key.Vlen = codes "128, 256 or 512"
 key_wanted key.Agnostic = codes "\"keep\" or \"ones\""
 key_wanted key.Max = codes "a number in 0..=9223372036854775807"
-key_wanted key.Param = codes "at most eight tables"
+key_wanted key.Param = codes "at most eight tables, each [[param]]"
 key_wanted key.Kind = codes "\"none\", \"scalar\" or \"buffer\""
 key_wanted key.Lo = word_wanted
 key_wanted key.Hi = word_wanted
@@ -52,7 +52,13 @@ abbrev pub wrong_text : JobTable → JobKey → List ℕ
 wrong_text t k = codes "not as wanted: " ++ (key_name k ++ in_text t k)
 
 abbrev pub unknown_text : JobTable → List ℕ → List ℕ
-unknown_text t name = codes "no key of " ++ (table_text t ++ (codes ": " ++ name))
+unknown_text t name = codes "a key that " ++ (table_text t ++ (codes " can't have: " ++ name))
+
+abbrev pub no_table_text : JobTable → List ℕ
+no_table_text t = codes "not as wanted: " ++ (table_text t ++ codes ": a table")
+
+abbrev pub no_kind_text : JobTable → List ℕ
+no_kind_text t = table_text t ++ (codes " has no kind: " ++ key_wanted key.Kind)
 
 abbrev pub too_many_text : List ℕ
 too_many_text = codes "wanted: at most eight param tables"
@@ -61,4 +67,6 @@ too_many_text = codes "wanted: at most eight param tables"
 abbrev pub breach_text : {A : Type 0} → (A → Option (List ℕ)) → JobBreach A → Option (List ℕ)
 breach_text text_of (breach.Wrong t k) = Some (wrong_text t k)
 breach_text text_of (breach.Unknown t name) = option_map (unknown_text t) (text_of name)
+breach_text text_of (breach.NoTable t) = Some (no_table_text t)
+breach_text text_of (breach.NoKind t) = Some (no_kind_text t)
 breach_text text_of breach.TooMany = Some too_many_text

@@ -34,10 +34,14 @@ pub enum JobKey {
 /// What of a table breaks the rules of job files.
 #[derive(Debug, Drop)]
 pub enum JobBreach<T> {
-    /// The value of a key is not of its type and range. A `kind` that is missing is none.
+    /// The value of a key is not of its type and range.
     Wrong { table: JobTable, key: JobKey },
     /// A key that the table can't have.
     Unknown { table: JobTable, key: T },
+    /// What stands at a place of `param` is no table.
+    NoTable { table: JobTable },
+    /// A `[[param]]` table has no `kind`.
+    NoKind { table: JobTable },
     /// There are more than eight `[[param]]` tables.
     TooMany,
 }
@@ -70,7 +74,7 @@ impl JobKey {
     {
         match self {
             JobKey::Image | JobKey::File | JobKey::Out => "a path",
-            JobKey::Param => "at most eight tables",
+            JobKey::Param => "at most eight tables, each [[param]]",
             JobKey::Kind => "\"none\", \"scalar\" or \"buffer\"",
             JobKey::Vlen => "128, 256 or 512",
             JobKey::Agnostic => "\"keep\" or \"ones\"",
@@ -107,7 +111,14 @@ impl<T: fmt::Display> fmt::Display for JobBreach<T> {
                 let wanted = key.wanted();
                 write!(f, "not as wanted: {name} in {table}: {wanted}")
             }
-            JobBreach::Unknown { table, key } => write!(f, "no key of {table}: {key}"),
+            JobBreach::Unknown { table, key } => {
+                write!(f, "a key that {table} can't have: {key}")
+            }
+            JobBreach::NoTable { table } => write!(f, "not as wanted: {table}: a table"),
+            JobBreach::NoKind { table } => {
+                let wanted = JobKey::Kind.wanted();
+                write!(f, "{table} has no kind: {wanted}")
+            }
             JobBreach::TooMany => f.write_str("wanted: at most eight param tables"),
         }
     }

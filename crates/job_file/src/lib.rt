@@ -61,7 +61,7 @@ fn job_fields<'a>(table: &'a Table) -> Result<Job<&'a str>, JobBreach<&'a str>>
 }
 
 /// The values of a job's table, or the first key that breaks a rule of job files: one that the table can't have, then
-/// one with a value of a wrong type or range.
+/// one with a value of a wrong type or range. Each place of `param` has to be a table, with a `kind` of its own.
 ///
 /// A job may have `image` (a path), `vlen` (128, 256 or 512), `agnostic` ("keep" or "ones"), `max` (0 to
 /// 2^63 - 1) and at most eight `[[param]]` tables, each with a `kind`: "none"; "scalar", with `lo`,

@@ -5,6 +5,7 @@ ghost use Rattle.toml.specs.View.{array_view, table_view, view};
 ghost use Rattle.job_file.specs.Job.{buffer_fields, kind_in, kind_keys, kind_of};
 ghost use Rattle.job_file.specs.Job.{no_params, param_at, param_lent, param_of};
 ghost use Rattle.job_file.specs.Job.{param_of_kind, params_in, params_of, read_lent, scalar_fields};
+ghost use Rattle.job_file.specs.Job.{table_of};
 
 use crate::fields;
 use crate::keys::{JobBreach, JobKey, JobTable};
@@ -33,11 +34,12 @@ fn kind_of(value: &Value) -> Option<Kind>
     }
 }
 
-/// The kind of a table, where it has one.
-fn kind_in(table: &Table) -> Option<Kind>
-    ensures { result ≡ kind_in (table_view table.now) }
+/// The kind of a table, which has to have one.
+fn kind_in<'a>(table: &'a Table, place: JobTable) -> Result<Kind, JobBreach<&'a str>>
+    ensures { read_lent (λ kind. kind) result ≡ kind_in place (table_view table.now) }
 {
-    kind_of(fields::at(table, JobKey::Kind)?)
+    let value = fields::at(table, JobKey::Kind).ok_or(JobBreach::NoKind { table: place })?;
+    fields::wanted(kind_of(value), place, JobKey::Kind)
 }
 
 /// The keys that a table of a kind may have.
@@ -102,13 +104,20 @@ fn param_of_kind<'a>(
     }
 }
 
+/// The table at a place of `param`, where each has to be one.
+fn table_of<'a>(value: &'a Value, place: JobTable) -> Result<&'a Table, JobBreach<&'a str>>
+    ensures { read_lent (λ table. table_view table.now) result ≡ table_of place (view value.now) }
+{
+    value.as_table().ok_or(JobBreach::NoTable { table: place })
+}
+
 /// One `[[param]]` table.
 #[tactic(auto, unfolding(crate::specs::Job::param_of))]
 fn param_of<'a>(value: &'a Value, place: JobTable) -> Result<JobParam<&'a str>, JobBreach<&'a str>>
     ensures { read_lent param_lent result ≡ param_of place (view value.now) }
 {
-    let table = fields::wanted(value.as_table(), place, JobKey::Kind)?;
-    let kind = fields::wanted(kind_in(table), place, JobKey::Kind)?;
+    let table = table_of(value, place)?;
+    let kind = kind_in(table, place)?;
     param_of_kind(table, place, kind)
 }
 

@@ -8,7 +8,8 @@ use Rattle.std.specs.Str.Lossy.{utf8_valid_len}
 use Rattle.toml.specs.Data.{Members}
 use Rattle.toml.specs.Parse.{parse_document}
 use Rattle.job_file.specs.Job.{Breach, Text, job_of, kept_job_of}
-use Rattle.job_file.specs.Keys.{in_text, key_name, too_many_text, unknown_text, wrong_text}
+use Rattle.job_file.specs.Keys.{in_text, key_name, no_kind_text, no_table_text, too_many_text}
+use Rattle.job_file.specs.Keys.{unknown_text, wrong_text}
 use Rattle.job_file.specs.Needs.{make_job_in, run_job_in, try_job_in}
 use Rattle.job_file.specs.declared.keys.JobBreach.{JobBreach}
 use Rattle.job_file.specs.declared.keys.JobBreach.TheVariants as breach
@@ -103,6 +104,8 @@ LacksNone c (Some j) = (job_lacks c j ≡ None) × LackNone c j.params 8
 abbrev pub breach_kept : JobBreach (String Global) → Breach
 breach_kept (breach.Wrong t k) = breach.Wrong t k
 breach_kept (breach.Unknown t name) = breach.Unknown t (string_bytes name)
+breach_kept (breach.NoTable t) = breach.NoTable t
+breach_kept (breach.NoKind t) = breach.NoKind t
 breach_kept breach.TooMany = breach.TooMany
 
 -- what is told of a table: nothing exactly where the command takes it
@@ -172,6 +175,8 @@ needs_text k c = command_name c ++ (codes " needs " ++ key_name k)
 abbrev pub kept_text : JobBreach (String Global) → List ℕ
 kept_text (breach.Wrong t k) = wrong_text t k
 kept_text (breach.Unknown t name) = unknown_text t (escaped_text (string_bytes name))
+kept_text (breach.NoTable t) = no_table_text t
+kept_text (breach.NoKind t) = no_kind_text t
 kept_text breach.TooMany = too_many_text
 
 -- the lines of a reason

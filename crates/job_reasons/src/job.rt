@@ -178,6 +178,8 @@ fn kept_breach(alloc: Global, breach: JobBreach<&str>) -> Result<JobBreach<Strin
             table,
             key: String::from_str(alloc, key)?,
         },
+        JobBreach::NoTable { table } => JobBreach::NoTable { table },
+        JobBreach::NoKind { table } => JobBreach::NoKind { table },
         JobBreach::TooMany => JobBreach::TooMany,
     })
 }

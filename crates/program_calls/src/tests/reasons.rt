@@ -27,6 +27,7 @@ fn tells_a_place_in_a_certificate(rt: HostRuntime) {
     let bytes = changed(rt, rt.alloc(), SUM.certificate, 169, 0);
     let reason = given!(rt; certificate_reason(rt.alloc(), &bytes, CertError::BlockOrder));
     let expected = "  reading stopped behind byte 171 of 261
+  the last byte read: 0x00
   in block 1, counted from 0
   wanted: a multiple of 4 above the start of the block before
 ";
@@ -65,9 +66,9 @@ fn tells_a_word_of_an_image(rt: HostRuntime) {
   offset from the base: 4
   known: its bytes in 0x40000004..=0x40000403
   wanted: all bytes in one of these zones that may be read
-    from 0x00010000 and below 0x0001001c: read
-    from 0x2fff0000 and below 0x30000000: read and write
-    from 0x40000000 and below 0x40000400: read
+    segment 0, from 0x00010000 and below 0x0001001c: read
+    stack, from 0x2fff0000 and below 0x30000000: read and write
+    a0, from 0x40000000 and below 0x40000400: read
 ";
     let reason = found!(rt; told(rt, rt.alloc(), 90, 0x45));
     assert_shows(rt, rt.alloc(), reason, expected);

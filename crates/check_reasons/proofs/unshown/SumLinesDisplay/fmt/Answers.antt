@@ -1,6 +1,6 @@
 use Rattle.std.proofs.Common.{arith}
 use Rattle.std.proofs.lemmas.Grind.{common_steps}
-use Rattle.check_reasons.proofs.unshown.BudgetLinesDisplay.fmt.Goals as goal
+use Rattle.check_reasons.proofs.unshown.SumLinesDisplay.fmt.Goals as goal
 
 pub returns : goal.returns
 returns g c = grind (arith, common_steps)
