@@ -1,4 +1,4 @@
-"""Tests of `tools/reasons`: docs/REASONS.md is what it prints, and has each name of a refusal."""
+"""Tests of `tools/reasons`: docs/REASONS.md is what it prints, and has each name of a refusal and of an error of a line of `mon`."""
 import re
 import unittest
 
@@ -26,7 +26,9 @@ class Reasons(unittest.TestCase):
         run = re.search(r'^\| `trapped: NAME .*', (ROOT / 'docs/JOBS.md').read_text(), re.M)[0]
         traps = set(re.findall(r'`([A-Z]\w+)`', run))
         self.assertGreater(len(traps), 4)
-        wanted = {*names('IMAGES.md', 'Errors'), *names('CERTIFICATES.md', 'Errors'), *checks, *told, *traps, 'file', 'out of steps'} - {'NoMemory'}
+        lines = set(re.findall(r'^\| `error: (\w+)` \|', (ROOT / 'docs/MONITOR.md').read_text(), re.M))
+        self.assertEqual(lines, set(re.findall(r'MonError::(\w+) => "\1"', (ROOT / 'crates/commands/src/texts.rt').read_text())) - {'Write'})
+        wanted = {*names('IMAGES.md', 'Errors'), *names('CERTIFICATES.md', 'Errors'), *checks, *told, *traps, *lines, 'file', 'out of steps'} - {'NoMemory'}
         self.assertEqual(wanted - set(reasons.reasons()), set())
 
     def test_a_case_takes_its_parts(self):
@@ -34,6 +36,12 @@ class Reasons(unittest.TestCase):
         (title, lines), = cases
         self.assertEqual(title, 'b')
         self.assertEqual(list(reasons.performances(reasons.expanded(lines, parts))), [('run --explain j', ['refused: One', 'two'])])
+
+    def test_each_line_of_a_session_has_its_answer(self):
+        lines = ['@file words', '@zeros 4', '@file -', '|s', '|s 1', '$ mon job.toml', 'status done', '> error: Unknown', '> at 00010004 step 1', ': read words']
+        self.assertEqual(reasons.session(lines), ['> s', 'error: Unknown', '> s 1', 'at 00010004 step 1'])
+        self.assertEqual(reasons.session([*lines, '> x00=00000000']), [])
+        self.assertEqual(reasons.session(lines[5:]), [])
 
 
 if __name__ == '__main__':

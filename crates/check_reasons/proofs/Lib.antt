@@ -1,3 +1,4 @@
 pub mod BufferPlaces
 pub mod GapLemmas
 pub mod KeptPlaces
+pub mod RuleLemmas

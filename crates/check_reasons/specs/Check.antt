@@ -31,6 +31,7 @@ use Rattle.explanations.specs.Address.{address_text}
 use Rattle.explanations.specs.Words.{listing_line, word_line}
 use Rattle.check_reasons.specs.Edge.{edge_at, edge_text}
 use Rattle.check_reasons.specs.Illegal.{illegal_in, illegal_text}
+use Rattle.check_reasons.specs.Vtypes.{kept_vtype}
 use Rattle.check_reasons.specs.declared.access.Elements.{Elements}
 use Rattle.check_reasons.specs.declared.access.Operand.{Operand}
 use Rattle.check_reasons.specs.declared.check.CheckReason.{CheckReason}
@@ -122,7 +123,7 @@ IsAccess image certificate word before told =
 
 -- what is told of a word that is not legal, if it means an instruction
 abbrev pub illegal_at : Option Insn → Option AbstractView → Wanted
-illegal_at (Some insn) (Some a) = wanted.Illegal (illegal_in a.vtype insn)
+illegal_at (Some insn) (Some a) = wanted.Illegal (illegal_in (kept_vtype a.vtype) insn)
 illegal_at (Some insn) None = wanted.Plain
 illegal_at None before = wanted.Plain
 

@@ -22,7 +22,7 @@ use Rattle.block_checker.specs.declared.refused.Part.{Part}
 use Rattle.block_checker.specs.declared.refused.Part.TheVariants as part
 use Rattle.block_checker.specs.Explained.{behind_in, place_in, refused_edge}
 use Rattle.explanations.specs.Address.{address_text}
-use Rattle.check_reasons.specs.Gaps.{gap_of, gap_text}
+use Rattle.check_reasons.specs.Gaps.{end_text, gap_of}
 use Rattle.check_reasons.specs.Sums.{times_text}
 use Rattle.check_reasons.specs.Unshown.{range_line, unshown_of, unshown_text}
 use Rattle.check_reasons.specs.declared.edge.Edge.{Edge}
@@ -164,11 +164,16 @@ abbrev pub after_text : Option Left → ℕ → List ℕ
 after_text None words = []
 after_text (Some left) words = codes ", after " ++ (words_text words ++ codes " of the block")
 
+-- the end of the run is no address of a block
+unfoldable pub target_text : ℕ → List ℕ
+target_text target =
+    if target == exit then codes "the end of the run" else address_text target
+
 abbrev pub target_line : Option ℕ → Option Left → ℕ → List ℕ
 target_line None left words = codes "  leads to an address that is not known, after "
     ++ (words_text words ++ codes "\n")
 target_line (Some target) left words =
-    codes "  leads to " ++ (address_text target ++ (after_text left words ++ codes "\n"))
+    codes "  leads to " ++ (target_text target ++ (after_text left words ++ codes "\n"))
 
 abbrev pub source_line : Option Source → List ℕ
 source_line None = []
@@ -198,7 +203,7 @@ entered_lines (Some told) = block_line told.block told.budget ++ unshown_text to
 
 abbrev pub end_lines : Option Gap → List ℕ
 end_lines None = []
-end_lines (Some gap) = gap_text gap
+end_lines (Some gap) = end_text gap
 
 -- the lines of an edge
 unfoldable pub edge_text : Edge → List ℕ

@@ -50,14 +50,22 @@ gap_of e own next = record {
 abbrev pub least_line : ℕ → List ℕ
 least_line number = codes "  known: the budget left is at least " ++ (decimal number ++ codes "\n")
 
-abbrev pub asked_line : ℕ → List ℕ
-asked_line number =
-    codes "  known: these words and the budget entered are at most "
-    ++ (decimal number ++ codes "\n")
+abbrev pub asked_line : List ℕ → ℕ → List ℕ
+asked_line behind number = codes "  known: these words and "
+    ++ (behind ++ (codes " are at most " ++ (decimal number ++ codes "\n")))
 
 abbrev pub lack_line : ℕ → List ℕ
 lack_line number = codes "  lacking, by the difference of both: " ++ (decimal number ++ codes "\n")
 
--- the lines of a budget that is too small
-unfoldable pub gap_text : Gap → List ℕ
-gap_text gap = least_line gap.left ++ (asked_line gap.asked ++ lack_line gap.lack)
+-- the lines of a budget that is too small for these words and what is behind them
+unfoldable pub gap_lines : Gap → List ℕ → List ℕ
+gap_lines gap behind =
+    least_line gap.left ++ (asked_line behind gap.asked ++ lack_line gap.lack)
+
+-- on a way to a block
+abbrev pub gap_text : Gap → List ℕ
+gap_text gap = gap_lines gap (codes "the budget entered")
+
+-- on a way to the end of the run
+abbrev pub end_text : Gap → List ℕ
+end_text gap = gap_lines gap (codes "0 at the end of the run")

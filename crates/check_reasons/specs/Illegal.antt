@@ -1,17 +1,18 @@
--- What is told of a word that is not legal under the vector type that is known.
+-- What is told of a word that is not legal under the vector type that is held.
 use Rattle.std.specs.Prelude.{Bool, true, false, ℕ, ◌==◌, ◌++◌, List, [], codes, Option, Some, None, option_map, if◌then◌else◌}
 use Rattle.std.specs.Fmt.{decimal}
-use Rattle.std.specs.Option.{option_and_then}
 use Rattle.rv_decode.specs.Needs.{needs_of}
 use Rattle.rv_decode.specs.declared.extents.Operand.{Operand}
 use Rattle.rv_decode.specs.declared.instructions.Insn.{Insn}
 use Rattle.rv_decode.specs.declared.instructions.Insn.TheVariants as insn
 use Rattle.vreg_groups.specs.Legality.{count_of, element_bits}
-use Rattle.vreg_groups.specs.VectorType.{vtype_of}
 use Rattle.vreg_groups.specs.declared.vector_type.Vtype.{Vtype}
-use Rattle.check_reasons.specs.Vtypes.{known_text}
+use Rattle.check_reasons.specs.Rules.{rule_of, third_name, wish_text}
+use Rattle.check_reasons.specs.Vtypes.{held_text, vtype_in}
 use Rattle.check_reasons.specs.declared.illegal.Group.{Group}
 use Rattle.check_reasons.specs.declared.illegal.Illegal.{Illegal}
+use Rattle.check_reasons.specs.declared.rules.Rule.{Rule}
+use Rattle.check_reasons.specs.declared.vtypes.HeldVtype.{HeldVtype}
 
 -- ---- what is told
 
@@ -35,18 +36,18 @@ is_access (insn.VPerm i) = false
 is_access (insn.VReduce i) = false
 is_access (insn.VMove i) = false
 
--- an instruction's operands in vector registers, where these bits of vtype are known
-abbrev pub illegal_in : Option ℕ → Insn → Illegal
-illegal_in bits insn =
-    let vtype = option_and_then vtype_of bits in
-    record {
-      vtype = bits;
-      destination = option_map (group_of vtype) (needs_of insn).destination;
-      vs2 = option_map (group_of vtype) (needs_of insn).vs2;
-      vs1 = option_map (group_of vtype) (needs_of insn).vs1;
-      is_masked = (needs_of insn).is_masked;
-      is_access = is_access insn;
-    }
+-- an instruction's operands in vector registers under what vtype holds, and the rule that they
+-- break
+abbrev pub illegal_in : HeldVtype → Insn → Illegal
+illegal_in vtype insn = record {
+  vtype = vtype;
+  destination = option_map (group_of (vtype_in vtype)) (needs_of insn).destination;
+  vs2 = option_map (group_of (vtype_in vtype)) (needs_of insn).vs2;
+  vs1 = option_map (group_of (vtype_in vtype)) (needs_of insn).vs1;
+  is_masked = (needs_of insn).is_masked;
+  is_access = is_access insn;
+  rule = rule_of (vtype_in vtype) (needs_of insn);
+}
 
 -- ---- the words
 
@@ -63,23 +64,25 @@ group_line name (Some group) = codes "  " ++ (name ++ (codes ": " ++ (registers_
     ++ (codes " from v" ++ (decimal group.first ++ (codes " on" ++ (elements_text group.bits
     ++ codes "\n")))))))
 
-abbrev pub third_name : Bool → List ℕ
-third_name true = codes "vs3"
-third_name false = codes "vs1"
-
 abbrev pub mask_line : Bool → List ℕ
 mask_line true = codes "  masked by v0\n"
 mask_line false = []
 
-abbrev pub vtype_line : Option ℕ → List ℕ
-vtype_line bits = codes "  known: " ++ (known_text bits ++ codes "\n")
+abbrev pub vtype_line : HeldVtype → List ℕ
+vtype_line vtype = codes "  known: " ++ (held_text vtype ++ codes "\n")
 
 abbrev pub legal_lines : List ℕ
 legal_lines = codes "  wanted: elements of 8 to 32 bits, in at most 8 registers from a multiple of "
     ++ codes "their number on\n  wanted: vd apart from sources of another width, and from a mask\n"
 
+-- what is wanted of the operands of a load or store, or of another instruction
+abbrev pub wanted_lines : Option Rule → Bool → List ℕ
+wanted_lines None is_access = legal_lines
+wanted_lines (Some rule) is_access =
+    codes "  wanted: " ++ (wish_text rule is_access ++ codes "\n")
+
 -- the lines of a word that is not legal
 unfoldable pub illegal_text : Illegal → List ℕ
 illegal_text i = vtype_line i.vtype ++ (group_line (codes "vd") i.destination
     ++ (group_line (codes "vs2") i.vs2 ++ (group_line (third_name i.is_access) i.vs1
-    ++ (mask_line i.is_masked ++ legal_lines))))
+    ++ (mask_line i.is_masked ++ wanted_lines i.rule i.is_access))))

@@ -4,6 +4,7 @@ pub mod Edge
 pub mod Gaps
 pub mod Groups
 pub mod Illegal
+pub mod Rules
 pub mod Spans
 pub mod Sums
 pub mod Unshown

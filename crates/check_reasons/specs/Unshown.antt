@@ -18,10 +18,11 @@ use Rattle.check_reasons.specs.Spans.{span_text}
 use Rattle.check_reasons.specs.Gaps.{gap_of, gap_text}
 use Rattle.check_reasons.specs.Groups.{group_at, vector_text}
 use Rattle.check_reasons.specs.Sums.{name_text, sum_text}
-use Rattle.check_reasons.specs.Vtypes.{known_text, vtype_text}
+use Rattle.check_reasons.specs.Vtypes.{held_text, kept_vtype, vtype_text}
 use Rattle.check_reasons.specs.declared.unshown.Number.{Number}
 use Rattle.check_reasons.specs.declared.unshown.Unshown.{Unshown}
 use Rattle.check_reasons.specs.declared.unshown.Unshown.TheVariants as unshown
+use Rattle.check_reasons.specs.declared.vtypes.HeldVtype.{HeldVtype}
 
 -- ---- what is told
 
@@ -83,7 +84,7 @@ unshown_budget (Some own) e next = unshown.Budget (gap_of e own next)
 -- the vector type that the block states, beside the one that is known
 abbrev pub unshown_vtype : EdgeView → Option ℕ → Unshown
 unshown_vtype e None = unshown.Untold
-unshown_vtype e (Some wanted) = unshown.Vtype e.state.vtype wanted
+unshown_vtype e (Some wanted) = unshown.Vtype (kept_vtype e.state.vtype) wanted
 
 -- of each error, what of the block entered is not shown; the block that is left may have a budget
 unfoldable pub unshown_of : CheckError → Option Budget → EdgeView → Block → Unshown
@@ -144,8 +145,15 @@ known_group (Some fact) = known_words ++ (vector_text fact ++ codes "\n")
 abbrev pub wanted_group : VectorFact → List ℕ
 wanted_group fact = wanted_words ++ (vector_text fact ++ codes "\n")
 
-abbrev pub vtype_lines : Option ℕ → ℕ → List ℕ
-vtype_lines known wanted = known_words ++ (known_text known
+unfoldable pub order_lines : Number → Number → List ℕ
+order_lines lesser greater =
+    number_lines lesser ++ (number_lines greater ++ wanted_order lesser.register greater.register)
+
+unfoldable pub vector_lines : VectorFact → Option VectorFact → Range → List ℕ
+vector_lines wanted known vl = range_line VL vl ++ (known_group known ++ wanted_group wanted)
+
+abbrev pub vtype_lines : HeldVtype → ℕ → List ℕ
+vtype_lines known wanted = known_words ++ (held_text known
     ++ (codes "\n" ++ (wanted_words ++ (vtype_text wanted ++ codes "\n"))))
 
 -- the lines of what is not shown
@@ -155,9 +163,7 @@ unshown_text (unshown.Interval known wanted) =
     number_lines known ++ wanted_range known.register wanted
 unshown_text (unshown.Equality register known wanted there) =
     sum_line register known ++ (wanted_sum register wanted ++ there_line there)
-unshown_text (unshown.Order lesser greater) =
-    number_lines lesser ++ (number_lines greater ++ wanted_order lesser.register greater.register)
-unshown_text (unshown.Vector wanted known vl) =
-    range_line VL vl ++ (known_group known ++ wanted_group wanted)
+unshown_text (unshown.Order lesser greater) = order_lines lesser greater
+unshown_text (unshown.Vector wanted known vl) = vector_lines wanted known vl
 unshown_text (unshown.Vtype known wanted) = vtype_lines known wanted
 unshown_text (unshown.Budget gap) = gap_text gap

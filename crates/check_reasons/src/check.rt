@@ -15,6 +15,7 @@ ghost use Rattle.check_reasons.specs.Edge.{edge_from};
 use crate::access::{Access, buffer_places, elements_in, operand_of, reach_in};
 use crate::edge::{Edge, edge_at};
 use crate::illegal::{Illegal, operands_in};
+use crate::vtypes::kept_vtype;
 use abs_state::{MOST_WORDS, memory_zones};
 use block_checker::{CheckError, Explanation, Kept, Part, Refused, Spot, Stop, checked};
 use cert_note::Certificate;
@@ -157,7 +158,7 @@ fn illegal_at<A: Allocator, B: Allocator>(image: &Image<B>, stop: &Option<Stop<A
     let Some(insn) = decode(word) else {
         return Wanted::Plain;
     };
-    Wanted::Illegal(operands_in(stop.state.vtype(), &insn))
+    Wanted::Illegal(operands_in(kept_vtype(stop.state.vtype()), &insn))
 }
 
 /// What is wanted where no way out is refused.
@@ -385,16 +386,16 @@ fn kept_of(stop: &Option<Spot>) -> Kept
 
 /// What is wanted, by what a stop keeps and by the error.
 #[derive(Clone, Copy)]
-struct Rule(Kept, CheckError);
+struct RuleLine(Kept, CheckError);
 
-impl fmt::Display for Rule {
+impl fmt::Display for RuleLine {
     ghost use Rattle.std.specs.Prelude.{Some};
     ghost use Rattle.check_reasons.specs.Check.{rule};
 
     ghost output = { λ told. Some (rule told.0 told.1) };
 
     fn fmt<W: fmt::Write>(&self, f: &mut fmt::Formatter<W>) -> fmt::Result {
-        let Rule(kept, error) = *self;
+        let RuleLine(kept, error) = *self;
         f.write_str(match error {
             CheckError::WrongVlen => "",
             CheckError::NoEntryBlock => "",
@@ -476,7 +477,7 @@ impl<A: Allocator> fmt::Display for CheckReason<A> {
     fn fmt<W: fmt::Write>(&self, f: &mut fmt::Formatter<W>) -> fmt::Result {
         let stop = StopLines(&self.explanation.stop);
         let listing = ListingLine(&self.listing);
-        let rule = Rule(kept_of(&self.explanation.stop), self.explanation.error);
+        let rule = RuleLine(kept_of(&self.explanation.stop), self.explanation.error);
         let wanted = &self.wanted;
         write!(f, "{stop}{listing}{rule}{wanted}")
     }

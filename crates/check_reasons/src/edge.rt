@@ -5,7 +5,7 @@ ghost use Rattle.check_reasons.specs.Edge.{entered_of, is_end as is_end_of, is_o
 ghost use Rattle.check_reasons.specs.Edge.{jump_of, jump_register as jump_register_of, left_of};
 ghost use Rattle.check_reasons.specs.Edge.{source_of as source_of_edge};
 
-use crate::gaps::{Gap, NO_BUDGET, gap_on};
+use crate::gaps::{EndGap, Gap, NO_BUDGET, gap_on};
 use crate::spans::Span;
 use crate::sums::{Name, Times};
 use crate::unshown::{Unshown, unshown_in};
@@ -283,6 +283,27 @@ impl fmt::Display for After {
     }
 }
 
+/// The address to which a way leads, or the end of the run.
+#[derive(Clone, Copy)]
+struct Target(u32);
+
+impl fmt::Display for Target {
+    ghost use Rattle.std.specs.Prelude.{Some};
+    ghost use Rattle.check_reasons.specs.Edge.{target_text};
+
+    ghost output = { λ target. Some (target_text target.0) };
+
+    #[tactic(auto, unfolding(crate::specs::Edge::target_text))]
+    fn fmt<W: fmt::Write>(&self, f: &mut fmt::Formatter<W>) -> fmt::Result {
+        if self.0 == EXIT {
+            f.write_str("the end of the run")
+        } else {
+            let address = Address(u64::from(self.0));
+            write!(f, "{address}")
+        }
+    }
+}
+
 /// Where a way leads, as a line.
 #[derive(Clone, Copy)]
 struct TargetLine {
@@ -302,7 +323,7 @@ impl fmt::Display for TargetLine {
         match self.target {
             None => writeln!(f, "  leads to an address that is not known, after {words}"),
             Some(target) => {
-                let target = Address(u64::from(target));
+                let target = Target(target);
                 let after = After(self.left, words);
                 writeln!(f, "  leads to {target}{after}")
             }
@@ -448,7 +469,10 @@ impl fmt::Display for EndLines {
     fn fmt<W: fmt::Write>(&self, f: &mut fmt::Formatter<W>) -> fmt::Result {
         match self.0 {
             None => Ok(()),
-            Some(gap) => write!(f, "{gap}"),
+            Some(gap) => {
+                let gap = EndGap(gap);
+                write!(f, "{gap}")
+            }
         }
     }
 }

@@ -126,20 +126,51 @@ pub(crate) fn gap_on<A: Allocator>(way: &Edge<'_, A>, own: Budget, next: Budget)
     }
 }
 
+/// A budget that is too small for these words and what is behind them.
+#[derive(Clone, Copy)]
+struct GapLines<'a>(Gap, &'a str);
+
+impl fmt::Display for GapLines<'_> {
+    ghost use Rattle.std.specs.Prelude.{Some};
+    ghost use Rattle.check_reasons.specs.Gaps.{gap_lines};
+
+    ghost output = { λ lines. Some (gap_lines lines.0 lines.1.now) };
+
+    #[tactic(auto, unfolding(crate::specs::Gaps::gap_lines))]
+    fn fmt<W: fmt::Write>(&self, f: &mut fmt::Formatter<W>) -> fmt::Result {
+        let GapLines(gap, behind) = *self;
+        let Gap { left, asked, lack } = gap;
+        writeln!(f, "  known: the budget left is at least {left}")?;
+        writeln!(f, "  known: these words and {behind} are at most {asked}")?;
+        writeln!(f, "  lacking, by the difference of both: {lack}")
+    }
+}
+
+/// A budget that is too small on a way to a block.
 impl fmt::Display for Gap {
     ghost use Rattle.std.specs.Prelude.{Some};
     ghost use Rattle.check_reasons.specs.Gaps.{gap_text};
 
     ghost output = { λ gap. Some (gap_text gap) };
 
-    #[tactic(auto, unfolding(crate::specs::Gaps::gap_text))]
     fn fmt<W: fmt::Write>(&self, f: &mut fmt::Formatter<W>) -> fmt::Result {
-        let Gap { left, asked, lack } = *self;
-        writeln!(f, "  known: the budget left is at least {left}")?;
-        writeln!(
-            f,
-            "  known: these words and the budget entered are at most {asked}"
-        )?;
-        writeln!(f, "  lacking, by the difference of both: {lack}")
+        let lines = GapLines(*self, "the budget entered");
+        write!(f, "{lines}")
+    }
+}
+
+/// A budget that is too small on a way to the end of the run.
+#[derive(Clone, Copy)]
+pub(crate) struct EndGap(pub(crate) Gap);
+
+impl fmt::Display for EndGap {
+    ghost use Rattle.std.specs.Prelude.{Some};
+    ghost use Rattle.check_reasons.specs.Gaps.{end_text};
+
+    ghost output = { λ end. Some (end_text end.0) };
+
+    fn fmt<W: fmt::Write>(&self, f: &mut fmt::Formatter<W>) -> fmt::Result {
+        let lines = GapLines(self.0, "0 at the end of the run");
+        write!(f, "{lines}")
     }
 }

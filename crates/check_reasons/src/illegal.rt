@@ -1,10 +1,13 @@
-//! A word that is not legal under the vector type that is known.
-ghost use Rattle.std.specs.Prelude.{◌≡◌, option_map};
-ghost use Rattle.vreg_groups.specs.Legality.{count_of, element_bits};
+//! A word that is not legal under the vector type that is held.
+ghost use Rattle.std.specs.Prelude.{◌≡◌, is_some, not, option_map};
+ghost use Rattle.rv_decode.specs.Needs.{needs_of};
+ghost use Rattle.vreg_groups.specs.Legality.{are_operands_legal, count_of, element_bits};
 ghost use Rattle.check_reasons.specs.Illegal.{group_of, illegal_in, is_access, legal_lines};
-ghost use Rattle.check_reasons.specs.Illegal.{mask_line, third_name};
+ghost use Rattle.check_reasons.specs.Illegal.{mask_line};
+ghost use Rattle.check_reasons.specs.Vtypes.{vtype_in};
 
-use crate::vtypes::KnownVtype;
+use crate::rules::{Rule, Wish, rule_in, third_name};
+use crate::vtypes::HeldVtype;
 use rv_decode::{Extent, Insn, Operand, Reg, needs, vector_arithmetic};
 use std::fmt;
 use vreg_groups::{Vtype, whole_count};
@@ -21,8 +24,7 @@ pub struct Group {
 /// A word that is not legal.
 #[derive(Clone, Copy)]
 pub struct Illegal {
-    /// Bits 7 to 0 of vtype, if they are known.
-    pub vtype: Option<u8>,
+    pub vtype: HeldVtype,
     pub destination: Option<Group>,
     pub vs2: Option<Group>,
     /// Of a store the data, which the standard calls vs3.
@@ -31,6 +33,8 @@ pub struct Illegal {
     pub is_masked: bool,
     /// Whether it is a load or store.
     pub is_access: bool,
+    /// The first rule that its operands break, if they break one.
+    pub rule: Option<Rule>,
 }
 
 /// How many registers an operand covers.
@@ -86,22 +90,23 @@ fn is_access(insn: &Insn) -> bool
     }
 }
 
-/// An instruction's operands in vector registers, where these bits of vtype are known.
-pub(crate) fn operands_in(bits: Option<u8>, insn: &Insn) -> Illegal
-    ensures { result ≡ illegal_in bits insn.now }
+/// An instruction's operands in vector registers under what vtype holds, and the rule that they break.
+pub fn operands_in(vtype: HeldVtype, insn: &Insn) -> Illegal
+    ensures meaning { result ≡ illegal_in vtype insn.now }
+    // A rule is named exactly where the instruction is not legal.
+    ensures named { is_some result.rule
+        ≡ not (are_operands_legal (vtype_in vtype) (needs_of insn.now)) }
 {
-    let vtype = match bits {
-        None => None,
-        Some(bits) => Vtype::from_bits(u32::from(bits)),
-    };
+    let known = vtype.vector_type();
     let operands = needs(insn);
     Illegal {
-        vtype: bits,
-        destination: group_in(vtype, operands.destination),
-        vs2: group_in(vtype, operands.vs2),
-        vs1: group_in(vtype, operands.vs1),
+        vtype,
+        destination: group_in(known, operands.destination),
+        vs2: group_in(known, operands.vs2),
+        vs1: group_in(known, operands.vs1),
         is_masked: operands.is_masked,
         is_access: is_access(insn),
+        rule: rule_in(known, &operands),
     }
 }
 
@@ -168,13 +173,6 @@ impl fmt::Display for GroupLine<'_> {
     }
 }
 
-/// The name of the third operand.
-fn third_name(is_access: bool) -> &'static str
-    ensures { result.now ≡ third_name is_access }
-{
-    if is_access { "vs3" } else { "vs1" }
-}
-
 /// Whether an instruction is masked, as a line.
 fn mask_line(is_masked: bool) -> &'static str
     ensures { result.now ≡ mask_line is_masked }
@@ -191,6 +189,28 @@ fn legal_lines() -> &'static str
 "
 }
 
+/// What is wanted of the operands of a load or store, or of another instruction: what the rule wants that they break.
+#[derive(Clone, Copy)]
+struct WantedLines(Option<Rule>, bool);
+
+impl fmt::Display for WantedLines {
+    ghost use Rattle.std.specs.Prelude.{Some};
+    ghost use Rattle.check_reasons.specs.Illegal.{wanted_lines};
+
+    ghost output = { λ wanted. Some (wanted_lines wanted.0 wanted.1) };
+
+    fn fmt<W: fmt::Write>(&self, f: &mut fmt::Formatter<W>) -> fmt::Result {
+        let WantedLines(rule, is_access) = *self;
+        match rule {
+            None => f.write_str(legal_lines()),
+            Some(rule) => {
+                let wish = Wish(rule, is_access);
+                writeln!(f, "  wanted: {wish}")
+            }
+        }
+    }
+}
+
 impl fmt::Display for Illegal {
     ghost use Rattle.std.specs.Prelude.{Some};
     ghost use Rattle.check_reasons.specs.Illegal.{illegal_text};
@@ -199,12 +219,12 @@ impl fmt::Display for Illegal {
 
     #[tactic(auto, unfolding(crate::specs::Illegal::illegal_text))]
     fn fmt<W: fmt::Write>(&self, f: &mut fmt::Formatter<W>) -> fmt::Result {
-        let vtype = KnownVtype(self.vtype);
+        let vtype = self.vtype;
         let destination = GroupLine("vd", self.destination);
         let vs2 = GroupLine("vs2", self.vs2);
         let vs1 = GroupLine(third_name(self.is_access), self.vs1);
         let mask = mask_line(self.is_masked);
-        let legal = legal_lines();
-        write!(f, "  known: {vtype}\n{destination}{vs2}{vs1}{mask}{legal}")
+        let wanted = WantedLines(self.rule, self.is_access);
+        write!(f, "  known: {vtype}\n{destination}{vs2}{vs1}{mask}{wanted}")
     }
 }

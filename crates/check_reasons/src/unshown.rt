@@ -18,7 +18,7 @@ use crate::gaps::{Gap, gap_on};
 use crate::groups::{Vector, group_at};
 use crate::spans::Span;
 use crate::sums::{Name, Sum, VL, sum_of, sum_stated};
-use crate::vtypes::{KnownVtype, VtypeText};
+use crate::vtypes::{HeldVtype, VtypeText, kept_vtype};
 use abs_state::{
     Edge, is_equality_shown, is_interval_shown, is_order_shown, is_vector_shown, sum_on,
 };
@@ -49,7 +49,7 @@ pub enum Unshown {
     },
     /// The vector type.
     Vtype {
-        known: Option<u8>,
+        known: HeldVtype,
         wanted: u8,
     },
     /// An equality of a register, or of vl: what is known of it in numbers of where the block begins that the way leaves. What
@@ -220,7 +220,7 @@ fn unshown_vtype<A: Allocator>(way: &Edge<'_, A>, wanted: Option<u8>) -> Unshown
     match wanted {
         None => Unshown::Untold,
         Some(wanted) => Unshown::Vtype {
-            known: way.vtype(),
+            known: kept_vtype(way.vtype()),
             wanted,
         },
     }
@@ -303,7 +303,7 @@ impl fmt::Display for SumLines<'_> {
 
 /// A vector type that is known, and the one that is wanted.
 #[derive(Clone, Copy)]
-struct VtypeLines(Option<u8>, u8);
+struct VtypeLines(HeldVtype, u8);
 
 impl fmt::Display for VtypeLines {
     ghost use Rattle.std.specs.Prelude.{Some};
@@ -312,7 +312,7 @@ impl fmt::Display for VtypeLines {
     ghost output = { λ lines. Some (vtype_lines lines.0 lines.1) };
 
     fn fmt<W: fmt::Write>(&self, f: &mut fmt::Formatter<W>) -> fmt::Result {
-        let known = KnownVtype(self.0);
+        let known = self.0;
         let wanted = VtypeText(self.1);
         write!(f, "  known: {known}\n  wanted on entering it: {wanted}\n")
     }
@@ -336,6 +336,53 @@ impl fmt::Display for KnownGroup {
                 writeln!(f, "  known: {fact}")
             }
         }
+    }
+}
+
+/// What is known of both registers of an order, and the order that is wanted.
+#[derive(Clone, Copy)]
+struct OrderLines<'a>(&'a Number, &'a Number);
+
+impl fmt::Display for OrderLines<'_> {
+    ghost use Rattle.std.specs.Prelude.{Some};
+    ghost use Rattle.check_reasons.specs.Unshown.{order_lines};
+
+    ghost output = { λ lines. Some (order_lines lines.0.now lines.1.now) };
+
+    #[tactic(auto, unfolding(crate::specs::Unshown::order_lines))]
+    fn fmt<W: fmt::Write>(&self, f: &mut fmt::Formatter<W>) -> fmt::Result {
+        let OrderLines(lesser, greater) = *self;
+        let less = Name(lesser.register);
+        let more = Name(greater.register);
+        writeln!(
+            f,
+            "{lesser}{greater}  wanted on entering it: {less} <= {more}"
+        )
+    }
+}
+
+/// A fact on vector registers that is wanted, with what is known of the group, and of vl.
+#[derive(Clone, Copy)]
+struct VectorLines {
+    wanted: VectorFact,
+    known: Option<VectorFact>,
+    vl: Range,
+}
+
+impl fmt::Display for VectorLines {
+    ghost use Rattle.std.specs.Prelude.{Some};
+    ghost use Rattle.check_reasons.specs.Unshown.{vector_lines};
+
+    ghost output = { λ lines. Some (vector_lines lines.wanted lines.known lines.vl) };
+
+    #[tactic(auto, unfolding(crate::specs::Unshown::vector_lines))]
+    fn fmt<W: fmt::Write>(&self, f: &mut fmt::Formatter<W>) -> fmt::Result {
+        let range = Span(self.vl);
+        let vl = Name(VL);
+        let known = KnownGroup(self.known);
+        let wanted = Vector(self.wanted);
+        writeln!(f, "  known: {vl} in {range}")?;
+        writeln!(f, "{known}  wanted on entering it: {wanted}")
     }
 }
 
@@ -373,20 +420,16 @@ impl fmt::Display for Unshown {
                 write!(f, "{lines}")
             }
             Unshown::Order { lesser, greater } => {
-                let less = Name(lesser.register);
-                let more = Name(greater.register);
-                writeln!(
-                    f,
-                    "{lesser}{greater}  wanted on entering it: {less} <= {more}"
-                )
+                let lines = OrderLines(lesser, greater);
+                write!(f, "{lines}")
             }
             Unshown::Vector { wanted, known, vl } => {
-                let range = Span(*vl);
-                let vl = Name(VL);
-                let known = KnownGroup(*known);
-                let wanted = Vector(*wanted);
-                writeln!(f, "  known: {vl} in {range}")?;
-                writeln!(f, "{known}  wanted on entering it: {wanted}")
+                let lines = VectorLines {
+                    wanted: *wanted,
+                    known: *known,
+                    vl: *vl,
+                };
+                write!(f, "{lines}")
             }
             Unshown::Budget(gap) => write!(f, "{gap}"),
         }

@@ -7,7 +7,7 @@ use Rattle.clap.specs.Words.{fault_of, kind_of}
 use Rattle.clap.specs.declared.error.kind.ErrorKind.{ErrorKind}
 use Rattle.command_line.specs.Asked.{is_help, is_request, status_of_line}
 use Rattle.commands.specs.Ending.{Ends}
-use Rattle.command_line.specs.Program.{Does, IsAsAsked, IsRefusal, IsStatusFor, IsUntouched, Stops, explains}
+use Rattle.command_line.specs.Program.{Does, IsAsAsked, IsRefusal, IsSilent, IsStatusFor, IsUntouched, Stops, explains}
 use Rattle.command_line.specs.Line.{IsFaultIn, IsFaultOf, IsLineOf, app}
 use Rattle.commands.specs.Files.{Files}
 use Rattle.commands.specs.Streams.{Exchange, IsTold, Stream}
@@ -81,12 +81,39 @@ pub fits_any : (words : List Text) (line : Line) (cut : Type 0) (s : Status) →
 fits_any words line cut s is = subst (λ (kinds : Kinds). IsStatusFor kinds cut s) (sym (faultless words line is)) tt
 
 -- files that stay as they are
-pub untouched : (kinds : Kinds) (held : Option Held) → IsUntouched kinds held held
-untouched [] held = tt
-untouched (k ∷ ks) held = refl
+pub untouched : (kinds : Kinds) (held : Option Held) (e : Exchange) → e.after ≡ e.before → IsUntouched kinds held held e
+untouched [] held e unread = tt
+untouched (k ∷ ks) held e unread = (refl, unread)
 
-pub touched : (words : List Text) (line : Line) (was has : Option Held) → IsLineOf words line → IsUntouched (fault_of app words) was has
-touched words line was has is = subst (λ (kinds : Kinds). IsUntouched kinds was has) (sym (faultless words line is)) tt
+pub touched : (words : List Text) (line : Line) (was has : Option Held) (e : Exchange) → IsLineOf words line → IsUntouched (fault_of app words) was has e
+touched words line was has e is = subst (λ (kinds : Kinds). IsUntouched kinds was has e) (sym (faultless words line is)) tt
+
+-- nothing that is printed
+silent : (kinds : Kinds) (e : Exchange) (s : Status) → e.has ≡ e.had → IsSilent kinds e s
+silent [] e s is = tt
+silent (k ∷ ks) e status.Usage is = is
+silent (k ∷ ks) e status.Done is = tt
+silent (k ∷ ks) e status.Refused is = tt
+silent (k ∷ ks) e status.File is = tt
+silent (k ∷ ks) e status.Memory is = tt
+silent (k ∷ ks) e status.Stopped is = tt
+
+-- a fault is told on standard error alone
+pub silent_for : (kinds : Kinds) (error : LineError) (e : Exchange) (cut : Type 0) (s : Status)
+    → (is_request error ≡ false → e.has ≡ e.had) → (is_request error ≡ true → Answers cut s) → IsSilent kinds e s
+silent_for [] error e cut s quiet answered = tt
+silent_for (k ∷ ks) error e cut s quiet answered = go (is_request error) refl
+  where
+    go : (b : Bool) → is_request error ≡ b → IsSilent (k ∷ ks) e s
+    go false is = silent (k ∷ ks) e s (quiet is)
+    go true is = elim (answered is) as (λ _. IsSilent (k ∷ ks) e s) [
+      | inl done ↦ subst (λ (t : Status). IsSilent (k ∷ ks) e t) (sym done) tt
+      | inr (inl file) ↦ subst (λ (t : Status). IsSilent (k ∷ ks) e t) (sym file.0) tt
+      | inr (inr memory) ↦ subst (λ (t : Status). IsSilent (k ∷ ks) e t) (sym memory) tt
+    ]
+
+pub silent_any : (words : List Text) (line : Line) (e : Exchange) (s : Status) → IsLineOf words line → IsSilent (fault_of app words) e s
+silent_any words line e s is = subst (λ (kinds : Kinds). IsSilent kinds e s) (sym (faultless words line is)) tt
 
 -- what a subcommand that the words name does, or a fault of theirs
 pub asked_for : (files : Files) (words : List Text) (line : Line) (e : Exchange) (was has : Option Held) (told tells : Stream) (s : Status)

@@ -40,10 +40,16 @@ abbrev pub IsStatusFor : Kinds → Type 0 → Status → Type 0
 IsStatusFor [] cut s = Unit {0}
 IsStatusFor kinds cut s = IsRefusal kinds cut s
 
--- where `clap` finds a fault in the words, no file is read or written
-abbrev pub IsUntouched : Kinds → Option Held → Option Held → Type 0
-IsUntouched [] was has = Unit {0}
-IsUntouched kinds was has = has ≡ was
+-- where `clap` finds a fault in the words, no file is read or written, and the input is not read
+abbrev pub IsUntouched : Kinds → Option Held → Option Held → Exchange → Type 0
+IsUntouched [] was has e = Unit {0}
+IsUntouched kinds was has e = (has ≡ was) × (e.after ≡ e.before)
+
+-- and where that is told, nothing is printed on standard output
+abbrev pub IsSilent : Kinds → Exchange → Status → Type 0
+IsSilent [] e s = Unit {0}
+IsSilent kinds e status.Usage = e.has ≡ e.had
+IsSilent kinds e other = Unit {0}
 
 -- what a command line's subcommand does with its paths: `e` is what is read and printed, and `was`
 -- and `has` are the files before and after

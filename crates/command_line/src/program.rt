@@ -5,8 +5,9 @@ ghost use Rattle.std.specs.Prelude.{◌≡◌, map};
 ghost use Rattle.clap.specs.Words.{fault_of};
 ghost use Rattle.rv_listing.specs.Sinks.{IsCounted};
 ghost use Rattle.command_line.specs.Line.{app};
-ghost use Rattle.command_line.specs.Program.{Does, IsAsAsked, IsStatusFor, IsUntouched, Stops};
-ghost use Rattle.command_line.specs.Program.{explains, status_without_words, text_without_words};
+ghost use Rattle.command_line.specs.Program.{Does, IsAsAsked, IsSilent, IsStatusFor};
+ghost use Rattle.command_line.specs.Program.{IsUntouched, Stops, explains};
+ghost use Rattle.command_line.specs.Program.{status_without_words, text_without_words};
 ghost use Rattle.commands.specs.Ending.{Ends, code_of};
 ghost use Rattle.commands.specs.Files.{files_of};
 ghost use Rattle.commands.specs.Streams.{IsTold, exchange, source, stream};
@@ -63,7 +64,18 @@ pub fn perform<'a, S: Store, I: Source, O: Stream, E: Sink>(
     ensures status { IsStatusFor (fault_of app (map (λ w. w.now) words.entry.now))
         (IsCounted (O.failures output.old) (O.failures output.new)) result.status }
     ensures untouched { IsUntouched (fault_of app (map (λ w. w.now) words.entry.now))
-        (S.held store.old) (S.held store.new) }
+        (S.held store.old) (S.held store.new)
+        (exchange
+        (source (I.remaining input.old) (I.reads input.old) (I.failures input.old))
+        (source (I.remaining input.new) (I.reads input.new) (I.failures input.new))
+        (stream (O.contents output.old) (O.failures output.old))
+        (stream (O.contents output.new) (O.failures output.new))) }
+    ensures silent { IsSilent (fault_of app (map (λ w. w.now) words.entry.now))
+        (exchange
+        (source (I.remaining input.old) (I.reads input.old) (I.failures input.old))
+        (source (I.remaining input.new) (I.reads input.new) (I.failures input.new))
+        (stream (O.contents output.old) (O.failures output.old))
+        (stream (O.contents output.new) (O.failures output.new))) result.status }
     ensures asked { IsAsAsked (files_of (S.held store.old)) (map (λ w. w.now) words.entry.now)
         (exchange
         (source (I.remaining input.old) (I.reads input.old) (I.failures input.old))

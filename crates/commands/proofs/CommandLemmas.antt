@@ -9,6 +9,7 @@ use Rattle.job_file.specs.declared.values.JobError.{JobError}
 use Rattle.job_file.specs.declared.values.JobError.TheVariants as job_error
 use Rattle.job_file.specs.Needs.{RunJob}
 use Rattle.job_reasons.specs.declared.job.Command.{Command}
+use Rattle.job_file.specs.declared.values.MakeJob.{MakeJob}
 use Rattle.job_file.specs.declared.values.RunParam.{RunParam}
 use Rattle.rv_listing.specs.Sinks.{Told}
 use Rattle.toml.specs.Data.{Members}
@@ -18,6 +19,7 @@ use Rattle.commands.specs.Did.{did_of}
 use Rattle.commands.specs.Ending.{Ends, IsMore, Tells, more_if, plain, status_after, stop_of_job}
 use Rattle.commands.specs.Files.{ArePassed, Files, IsImageAt, IsNoImageAt, IsNoTable, IsUnfinished, IsUnpassed, IsUnwritten, files_of, image_in, outs_of}
 use Rattle.commands.specs.Halt.{bare, stop_of}
+use Rattle.commands.specs.Makes.{◌>>=◌, made_for, made_of}
 use Rattle.commands.specs.Starts.{IsStarted, IsUnstarted, StopsStarting}
 use Rattle.commands.specs.Steps.{IsUnasked}
 use Rattle.commands.specs.Streams.{Change, IsTold, Prints, Stream, Wrote, change, stream}
@@ -26,7 +28,7 @@ use Rattle.commands.specs.Why.{ExplainsImage}
 use Rattle.commands.specs.Words.{Argument, Halt, ImageView}
 use Rattle.commands.specs.Written.{Gains, Held, Written}
 use Rattle.commands.specs.declared.did.Did.{Did}
-use Rattle.commands.specs.declared.did.Place.{Place}
+use Rattle.commands.specs.declared.stands.Stand.{Stand}
 use Rattle.commands.specs.declared.stop.Status.{Status}
 use Rattle.commands.specs.declared.stop.Stop.{Stop}
 use Rattle.commands.specs.declared.stop.Stop.TheVariants as stop
@@ -82,6 +84,11 @@ pub want_ok : {A : Type 0} (defined : Result A Stop) (a : A) → IsOrWant define
 want_ok defined a (inl is) = sym is
 want_ok defined a (inr is) = cc
 
+-- what is made of the image that a file spells is made of the file
+pub made_whole : (job : MakeJob) (file : List ℕ) (image : ImageView) (bytes : List ℕ) → image_in file ≡ Ok image → made_for job file image ≡ Ok bytes
+    → made_of job file ≡ Ok bytes
+made_whole job file image bytes spells made = ap (λ (r : Result ImageView Stop). r >>= made_for job file) spells ∙ made
+
 -- ---- what is read
 
 -- a text of which the parser gives no table
@@ -101,7 +108,7 @@ pub image_read : (files : Files) (path : Text) (had file : List ℕ) (result : R
     → MatchResult result (IsImageAt files path) (IsNoImageAt files path)
 image_read files path had file (Ok image) same there is told =
     (file, subst (files.holds path) (sym same) there, or_ok (image_in file) image is)
-image_read files path had file (Err why) same there is told = inr (file, subst (files.holds path) (sym same) there, is, told)
+image_read files path had file (Err why) same there is told = inr (file, subst (files.holds path) (sym same) there, (is, told))
 
 -- ---- what a table asks for: `o` is what the program has of it
 
@@ -173,20 +180,20 @@ unprinted files c params args reason same why = record {
 
 -- a run that came to a trial is written and told, or why not: `given` is what the job passes, as the program has it
 pub finished : (old new : Stream) (first then has : Option Held) (given params : List (RunParam Text))
-    (defined : Result Trial Stop) (explains : Halt → Type 0) (trial : Trial) (place : Option Place) (asked : Bool) (shown : List ℕ) (result : Result Did Halt) (does : Did → Type 0) (stops : Halt → Type 0)
+    (defined : Result Trial Stop) (explains : Halt → Type 0) (trial : Trial) (stand : Option Stand) (asked : Bool) (shown : List ℕ) (result : Result Did Halt) (does : Did → Type 0) (stops : Halt → Type 0)
     → given ≡ params → OrMemory defined (Ok trial) → then ≡ first → shown ≡ shown_of asked trial
-    → IfOk result (λ did. did ≡ did_of trial.end place) → OnOk result (Prints old new (line_of trial ++ shown))
+    → IfOk result (λ did. did ≡ did_of trial.end stand) → OnOk result (Prints old new (line_of trial ++ shown))
     → OnOk result (Gains then has (outs_of given trial.args.places))
     → IfErr result (λ why. IsUnfinished (files_of then) (change then has old new) given trial.args.places (line_of trial ++ shown) (stop_of why))
     → ((did : Did) → defined ≡ Ok trial → Gains first has (outs_of params trial.args.places) → Prints old new (told_of asked trial)
-    → did ≡ did_of trial.end place → does did)
+    → did ≡ did_of trial.end stand → does did)
     → ((why : Halt) → StopsAtTrial (files_of first) (change first has old new) asked params defined explains why → stops why)
     → MatchResult result does stops
-finished old new first then has given params defined explains trial place asked shown (Ok did) does stops same comes none is done told wrote un do_so stop_so =
+finished old new first then has given params defined explains trial stand asked shown (Ok did) does stops same comes none is done told wrote un do_so stop_so =
     let outs = subst (λ (ps : List (RunParam Text)). Gains first has (outs_of ps trial.args.places)) same
     (subst (λ (h : Option Held). Gains h has (outs_of given trial.args.places)) none wrote) in
     do_so did (or_ok defined trial comes) outs (subst (λ (text : List ℕ). Prints old new (line_of trial ++ text)) is told) done
-finished old new first then has given params defined explains trial place asked shown (Err why) does stops same comes none is done told wrote un do_so stop_so =
+finished old new first then has given params defined explains trial stand asked shown (Err why) does stops same comes none is done told wrote un do_so stop_so =
     let all = subst (λ (h : Option Held). IsUnfinished (files_of h) (change h has old new) given trial.args.places (line_of trial ++ shown) (stop_of why)) none un in
     let some = subst (λ (ps : List (RunParam Text)). IsUnfinished (files_of first) (change first has old new) ps trial.args.places (line_of trial ++ shown) (stop_of why)) same all in
     let so = subst (λ (text : List ℕ). IsUnfinished (files_of first) (change first has old new) params trial.args.places (line_of trial ++ text) (stop_of why)) is some in

@@ -21,7 +21,7 @@ use Rattle.commands.specs.Tries.{StopsTry, Tries, passed_by}
 use Rattle.commands.specs.Streams.{Change, Exchange, Stream, Wrote, change, stream}
 use Rattle.commands.specs.Written.{Gains, Held}
 use Rattle.commands.specs.declared.did.Did.{Did}
-use Rattle.commands.specs.declared.did.Place.{Place}
+use Rattle.commands.specs.declared.stands.Stand.{Stand}
 use Rattle.commands.specs.declared.stop.Status.{Status}
 use Rattle.commands.specs.declared.stop.Status.TheVariants as status
 use Rattle.commands.specs.declared.stop.Stop.{Stop}
@@ -58,11 +58,11 @@ done_of {explains} {does} {stops} {told} {tells} {s} e is = by_came e.came e.com
     by_came (Err why) c same = absurd (let both : true ≡ false = sym is ∙ (ap is_done same ∙ undone (stop_of why)) in cc)
 
 -- the status of what was done is that of how the run ended
-ended_so : (e : End) (place : Option Place) → status_with (did_of e place) ≡ status_of_end e
-ended_so end.Ended place = refl
-ended_so (end.Trapped fault) (Some place) = refl
+ended_so : (e : End) (stand : Option Stand) → status_with (did_of e stand) ≡ status_of_end e
+ended_so end.Ended stand = refl
+ended_so (end.Trapped fault) (Some stand) = refl
 ended_so (end.Trapped fault) None = refl
-ended_so end.OutOfSteps (Some place) = refl
+ended_so end.OutOfSteps (Some stand) = refl
 ended_so end.OutOfSteps None = refl
 
 some : {A : Type 0} (a b : A) → Some a ≡ Some b → a ≡ b
@@ -157,7 +157,7 @@ try_done registers was has path old new before now told tells s e is =
       comes = r.comes;
       printed = r.told.0;
       files = some _ _ r.wrote;
-      status = same ∙ (ap status_with r.done ∙ ended_so r.trial.end r.place);
+      status = same ∙ (ap status_with r.done ∙ ended_so r.trial.end r.stand);
     }
 
 abbrev DoesMake : Held → Text → Text → Text → Change → Did → Type 0

@@ -19,6 +19,13 @@ reads_more first k now then (inl some) is = elim (cases_lt now (2 ^ 64 - 1)) [
 ]
 reads_more first k now then (inr most) is = inr (grind arith)
 
+-- no more than one
+pub reads_within : (first k now then : ℕ) → now ≤ first + k → then ≡ counted true now → then ≤ first + (k + 1)
+reads_within first k now then few is = elim (cases_lt now (2 ^ 64 - 1)) [
+  | inl below ↦ grind arith
+  | inr most ↦ grind arith
+]
+
 pub failures_more : (failed : Bool) (first now then : ℕ) → first ≤ now → then ≡ counted failed now → first ≤ then
 failures_more true first now then some is = grind arith
 failures_more false first now then some is = grind arith

@@ -33,7 +33,7 @@ answered-more vlenb (x ∷ xs) ys old mid new some more (w, first, rest, one, th
     (w, first, rest ++ more, one, answered-more vlenb xs ys w mid new rest more then are, ap (λ (t : List ℕ). t ++ more) is ∙ append_assoc first rest more)
 
 -- what stands after lines, which are answered
-stands-after : (vlenb : ℕ) (lines : List (List ℕ)) (bytes last : List ℕ) (old mid new : Watch) (some more : List ℕ) → AreLines lines
+pub stands-after : (vlenb : ℕ) (lines : List (List ℕ)) (bytes last : List ℕ) (old mid new : Watch) (some more : List ℕ) → AreLines lines
     → AreAnswered vlenb lines old mid some → Stands vlenb bytes last mid new more → Stands vlenb (joined lines ++ bytes) last old new (some ++ more)
 stands-after vlenb lines bytes last old mid new some more each are t = record {
   lines = lines ++ t.lines;
@@ -45,7 +45,7 @@ stands-after vlenb lines bytes last old mid new some more each are t = record {
 }
 
 -- more bytes behind those that were read
-behind : (vlenb : ℕ) (read left bytes : List ℕ) (old mid : Watch) (some : List ℕ) (s : Stands vlenb read left old mid some)
+pub behind : (vlenb : ℕ) (read left bytes : List ℕ) (old mid : Watch) (some : List ℕ) (s : Stands vlenb read left old mid some)
     → read ++ bytes ≡ joined s.lines ++ (left ++ bytes)
 behind vlenb read left bytes old mid some s = ap (λ (l : List ℕ). l ++ bytes) s.whole ∙ append_assoc (joined s.lines) left bytes
 

@@ -20,7 +20,6 @@ memory : (why : Halt) → stop_of why ≡ stop.Memory → why ≡ halt.Memory
 memory (halt.Job reason) is = cc
 memory (halt.UntoldJob error) is = cc
 memory (halt.Parameters reason) is = cc
-memory halt.LargeFile is = cc
 memory (halt.File path line) is = cc
 memory (halt.Image reason) is = cc
 memory (halt.Attach reason) is = cc

@@ -41,6 +41,11 @@ unfoldable pub is_among : Text → List Text → Bool
 is_among path [] = false
 is_among path (p ∷ paths) = if bytes_eq p path then true else is_among path paths
 
+-- the file at a path is none of those that can't be written, where these are known
+abbrev pub IsWritable : Option Held → Text → Type 0
+IsWritable None path = Unit {0}
+IsWritable (Some held) path = is_among path held.unwritten ≡ false
+
 -- what is read at a path
 abbrev pub bytes_at : Held → Text → Option (List ℕ)
 bytes_at held path = if is_among path held.unread then None else last_at path held.files None
@@ -102,11 +107,14 @@ image_in file = unless_fault (fault_of file) (image_of file)
 abbrev pub IsImageAt : Files → Text → ImageView → Type 0
 IsImageAt files path image = (bytes : List ℕ) × files.holds path bytes × (image_in bytes ≡ Ok image)
 
--- why no image is read there: the file is not read, or has a fault
+-- why a file spells no image: it has a fault
+abbrev pub IsNoImage : List ℕ → Halt → Type 0
+IsNoImage bytes why = OrMemory (image_in bytes) (Err (stop_of why)) × ExplainsImage bytes why
+
+-- why no image is read at a path: the file is not read, or has a fault
 abbrev pub IsNoImageAt : Files → Text → Halt → Type 0
 IsNoImageAt files path why = IsOfFile files.unread path (stop_of why)
-    ⊎ ((bytes : List ℕ) × files.holds path bytes × OrMemory (image_in bytes) (Err (stop_of why))
-    × ExplainsImage bytes why)
+    ⊎ ((bytes : List ℕ) × files.holds path bytes × IsNoImage bytes why)
 
 -- the file at a path has this text, which spells this table of a job
 abbrev pub IsJobAt : Files → Text → List ℕ → Members → Type 0

@@ -1,6 +1,5 @@
 -- Why a subcommand stops, and what more is told of it.
-use Rattle.std.specs.Prelude.{◌++◌, codes, ℕ, List, [], Some, None, Result, Ok, Err, string_bytes}
-use Rattle.std.specs.Fmt.{decimal}
+use Rattle.std.specs.Prelude.{codes, ℕ, List, [], Some, None, Result, Ok, Err, string_bytes}
 use Rattle.block_checker.specs.Refusals as check_words
 use Rattle.cert_maker.specs.Make as make_words
 use Rattle.cert_note.specs.Refusals as certificate_words
@@ -8,6 +7,7 @@ use Rattle.check_reasons.specs.Check.{check_text}
 use Rattle.elf_image.specs.Error as image_words
 use Rattle.explanations.specs.Certificate.{certificate_text}
 use Rattle.explanations.specs.Image.{image_text}
+use Rattle.explanations.specs.Loops.{loop_text}
 use Rattle.explanations.specs.Make.{make_text}
 use Rattle.explanations.specs.Refusal as refused
 use Rattle.job_file.specs.declared.values.JobError.TheVariants as job_error
@@ -15,7 +15,6 @@ use Rattle.job_reasons.specs.Job.{job_text}
 use Rattle.job_reasons.specs.declared.job.JobReason.{JobReason}
 use Rattle.job_reasons.specs.declared.job.JobReason.TheVariants as job_reason
 use Rattle.open_reasons.specs.Open.{open_text}
-use Rattle.region_mem.specs.declared.layout.TheConstants.{MAX_BUFFER_SIZE}
 use Rattle.sandbox_run.specs.Errors as open_words
 use Rattle.commands.specs.Reasoned.{lines_of}
 use Rattle.commands.specs.Words.{Halt, JobError, Stop}
@@ -27,7 +26,7 @@ use Rattle.commands.specs.declared.stop.Stop.TheVariants as stop
 -- the error of a job that is refused for a reason
 abbrev pub error_of : JobReason → JobError
 error_of (job_reason.NotUtf8 byte) = job_error.NotToml
-error_of (job_reason.NotToml line column byte) = job_error.NotToml
+error_of (job_reason.NotToml line column byte cause) = job_error.NotToml
 error_of job_reason.Broken = job_error.BadKey
 error_of (job_reason.Missing table key command) = job_error.BadKey
 error_of (job_reason.Breach breach) = job_error.BadKey
@@ -37,7 +36,6 @@ abbrev pub stop_of : Halt → Stop
 stop_of (halt.Job reason) = stop.Job (error_of reason.value)
 stop_of (halt.UntoldJob error) = stop.Job error
 stop_of (halt.Parameters reason) = stop.Job job_error.BadKey
-stop_of halt.LargeFile = stop.Job job_error.BadKey
 stop_of (halt.File path line) = stop.File path
 stop_of (halt.Image why) = stop.Image why.error
 stop_of (halt.Attach why) = stop.Image why.error
@@ -62,8 +60,6 @@ halt_text (halt.Job reason) = job_text reason.value
 halt_text (halt.UntoldJob error) = []
 halt_text (halt.Parameters None) = []
 halt_text (halt.Parameters (Some reason)) = make_text reason.value
-halt_text halt.LargeFile = codes "  wanted: for each buffer a file of at most "
-    ++ (decimal MAX_BUFFER_SIZE ++ codes " bytes\n")
 halt_text (halt.File path None) = []
 halt_text (halt.File path (Some line)) = string_bytes line
 halt_text (halt.Image why) =
@@ -77,7 +73,7 @@ halt_text (halt.Certificate why) = lines_of (certificate_words.refusal_text why.
 halt_text (halt.Check why) =
     lines_of (check_words.error_text why.error) (λ kept. check_text kept.value) why.reason
 halt_text (halt.Make why) =
-    lines_of (make_words.error_text why.error) (λ kept. make_text kept.value) why.reason
+    lines_of (make_words.error_text why.error) (λ kept. loop_text kept.value) why.reason
 halt_text (halt.Open told) = refused.told (open_words.error_text told.error) (open_text told.reason)
 halt_text halt.Memory = []
 halt_text halt.Output = []

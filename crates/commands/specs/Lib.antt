@@ -10,6 +10,7 @@ pub mod Memory
 pub mod Mons
 pub mod Reasoned
 pub mod Runs
+pub mod Stands
 pub mod Starts
 pub mod Steps
 pub mod Streams

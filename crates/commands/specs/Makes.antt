@@ -18,7 +18,7 @@ use Rattle.region_mem.specs.declared.parameter.Param.{Param}
 use Rattle.commands.specs.Accepted.{IsOrWant, accepted_of}
 use Rattle.commands.specs.Checks.{IsBudget, IsUntold, bound_line}
 use Rattle.commands.specs.Ending.{IsOfFile}
-use Rattle.commands.specs.Files.{Files, image_in, unless_fault}
+use Rattle.commands.specs.Files.{Files, IsNoImage, image_in, unless_fault}
 use Rattle.commands.specs.Halt.{stop_of}
 use Rattle.commands.specs.Steps.{StopsAt, StopsAtJob, StopsAtResult}
 use Rattle.commands.specs.Streams.{Change, Prints, Wrote}
@@ -57,12 +57,17 @@ with_certificate file certificate =
     let note = spelling certificate in
     unless_fault (attach_fault file note) (attached_of file note)
 
--- the file with the certificate that is made of it for a job, or the reason to stop
+-- the file with the certificate that is made of its image for a job, or the reason to stop
+abbrev pub made_for : MakeJob → List ℕ → ImageView → Result (List ℕ) Stop
+made_for job file image = do
+  certificate ← certificate_for job image
+  with_certificate file certificate
+
+-- the same of the image that the file spells
 abbrev pub made_of : MakeJob → List ℕ → Result (List ℕ) Stop
 made_of job file = do
   image ← image_in file
-  certificate ← certificate_for job image
-  with_certificate file certificate
+  made_for job file image
 
 -- what is accepted where a file that was made is read back
 abbrev pub accepted_in : MakeJob → List ℕ → Result AcceptedView Stop
@@ -85,10 +90,6 @@ abbrev pub ExplainsMaking : MakeJob → List ℕ → ImageView → Halt → Type
 ExplainsMaking job file image =
     ByStep (certificate_for job image) (ExplainsLoop job.params image)
     (λ certificate. ExplainsAttached file image.certificate (length (spelling certificate)))
-
--- why no file with a certificate is made of a file for a job
-abbrev pub ExplainsMade : MakeJob → List ℕ → Halt → Type 0
-ExplainsMade job file = ByStep (image_in file) (ExplainsImage file) (ExplainsMaking job file)
 
 -- why a file that was made is not accepted where it is read back
 abbrev pub ExplainsReadBack : MakeJob → List ℕ → Halt → Type 0
@@ -124,12 +125,15 @@ StopsMade files c out bytes accepted why =
     (IsOfFile files.unwritten out (stop_of why) × Wrote c [])
     ⊎ IsUntold c accepted ((out, bytes) ∷ []) why
 
--- `make` on a job's text and table: it asks for no job, the image's file is not read, none is made
--- of it, that is not accepted when it is read back, or afterwards
+-- `make` on a job's text and table: it asks for no job, the image's file is not read, spells no
+-- image, none is made of it, that is not accepted when it is read back, or afterwards. Once the
+-- image is read, want of memory does not come where there is no certificate of it for the job
 abbrev pub StopsMake : Files → Change → Text → Text → List ℕ → Members → Halt → Type 0
 StopsMake files c path out text table =
     StopsAtJob (Wrote c) (make_job_in table) (ExplainsJob command.Make text) (λ job.
     StopsAt (Wrote c) (λ why. IsOfFile files.unread path (stop_of why)) (files.holds path) (λ file.
-    StopsAtResult (Wrote c) (image_in file) (made_of job file) (ExplainsMade job file) (λ bytes.
+    StopsAt (Wrote c) (IsNoImage file) (λ image. image_in file ≡ Ok image) (λ image.
+    StopsAtResult (Wrote c) (certificate_for job image) (made_for job file image)
+    (ExplainsMaking job file image) (λ bytes.
     StopsAtResult (Wrote c) (image_in bytes) (accepted_in job bytes) (ExplainsReadBack job bytes)
-    (StopsMade files c out bytes))))
+    (StopsMade files c out bytes)))))

@@ -1,6 +1,6 @@
 -- What `mon` does.
-use Rattle.std.specs.Prelude.{◌≡◌, ◌⊎◌, codes, ℕ, List, Option, Some, None}
-use Rattle.rv_listing.specs.Sinks.{IsCounted}
+use Rattle.std.specs.Prelude.{◌≡◌, ◌⊎◌, codes, ℕ, List, [], Option, Some, None}
+use Rattle.std.specs.Io.KnownBytes.{Consumes, IsAtEnd}
 use Rattle.job_file.specs.Needs.{RunJob}
 use Rattle.job_reasons.specs.declared.job.Command.TheVariants as command
 use Rattle.region_mem.specs.Memory.{args_of}
@@ -12,8 +12,8 @@ use Rattle.commands.specs.Halt.{stop_of}
 use Rattle.commands.specs.Runs.{ExplainsRun}
 use Rattle.commands.specs.Starts.{IsStarted, StopsStarting}
 use Rattle.commands.specs.Steps.{StopsAt}
-use Rattle.commands.specs.Streams.{Exchange, IsQuiet, IsUnread, Prints, Stream}
-use Rattle.commands.specs.Talks.{AreTold}
+use Rattle.commands.specs.Streams.{Exchange, IsQuiet, IsUnread}
+use Rattle.commands.specs.Talks.{AreTold, IsBroken, IsLastBroken, IsLeft, Watch, watch}
 use Rattle.commands.specs.Words.{AcceptedView, Agnostic, Argument, Gains, Halt, Held, Members, OpenError, start, Stop, Text, vlenb_of, Written}
 use Rattle.commands.specs.declared.did.Did.{Did}
 use Rattle.commands.specs.declared.did.Did.TheVariants as did
@@ -53,44 +53,54 @@ pub record Mons (files : Files) (table : Members) (e : Exchange) (was has : Opti
 
 -- ---- why it stops: `wrote xs` says that the files `xs` were written
 
--- all that was told, some text, was printed
-abbrev pub HasPrinted : Stream → Stream → Type 0
-HasPrinted had has = (text : List ℕ) × Prints had has text
-
--- why a line that was read is not answered: memory ran out, or a write to standard output failed
-abbrev pub IsBroken : Stream → Stream → Stop → Type 0
-IsBroken had has stop.Memory = HasPrinted had has
-IsBroken had has stop.Output = IsCounted had.failures has.failures
-IsBroken had has other = ⊥
-
 -- a reason that the input gives
 abbrev pub IsOfInput : Stop → Type 0
 IsOfInput stop.Memory = Unit {0}
 IsOfInput (stop.File at) = at.now ≡ codes "-"
 IsOfInput other = ⊥
 
--- why a line is not answered: one that was read is not, or the input is not read on, in at most so
--- many reads
-abbrev pub IsUnanswered : ℕ → Exchange → Stop → Type 0
-IsUnanswered most e reason = IsBroken e.had e.has reason
-    ⊎ (IsOfInput reason × IsUnread most e.before e.after × HasPrinted e.had e.has)
+-- why a line is not answered, behind the bytes that were read: one of those in them is not, or the
+-- last one at the end of the input, or the input is not read on, in at most so many reads, and what
+-- was printed are the answers so far
+abbrev pub IsUnansweredBehind : ℕ → ℕ → Exchange → Watch → Stop → List ℕ → Type 0
+IsUnansweredBehind most vlenb e old reason bytes = IsBroken vlenb bytes e.had e.has old reason
+    ⊎ ((IsAtEnd e.after.rest × IsLastBroken vlenb bytes e.had e.has old reason)
+    ⊎ (IsOfInput reason × IsUnread most e.before e.after
+    × IsLeft vlenb bytes e.had old (λ line now mid. e.has ≡ now)))
+
+-- some bytes were read, and a line is not answered behind them
+pub record IsUnanswered (most vlenb : ℕ) (e : Exchange) (old : Watch) (reason : Stop) : Type 0 where
+  pub bytes : List ℕ
+  pub read : Consumes e.before.rest e.after.rest bytes
+  pub behind : IsUnansweredBehind most vlenb e old reason bytes
 
 -- why no run is opened: its fault, or else want of memory
 abbrev pub IsUnopened : Option OpenError → Stop → Type 0
 IsUnopened (Some error) reason = reason ≡ stop_of_open error
 IsUnopened None reason = reason ≡ stop.Memory
 
--- no run is opened, and nothing is read or printed, or a line is not answered
-abbrev pub StopsWatching : ℕ → ℕ → ℕ → AcceptedView → List Argument → Exchange → Halt → Type 0
-StopsWatching most vlenb max a args e why =
+-- a run is opened, and a line is not answered on it
+pub record IsSilenced (most vlenb : ℕ) (agnostic : Agnostic) (max : ℕ) (a : AcceptedView)
+    (args : List Argument) (e : Exchange) (reason : Stop) : Type 0 where
+  pub opens : open_fault vlenb a args max ≡ None
+  pub opened : SessionView
+  pub begins : IsOpened vlenb agnostic a args max opened
+  pub unanswered : IsUnanswered most vlenb e (watch [] opened) reason
+
+-- no run is opened, and nothing is read or printed, or one is, and a line is not answered
+abbrev pub StopsWatching : ℕ → ℕ → Agnostic → ℕ → AcceptedView → List Argument → Exchange → Halt
+    → Type 0
+StopsWatching most vlenb agnostic max a args e why =
     (IsUnopened (open_fault vlenb a args max) (stop_of why) × ExplainsRun max a args why
-    × IsQuiet e) ⊎ IsUnanswered most e (stop_of why)
+    × IsQuiet e)
+    ⊎ IsSilenced most vlenb agnostic max a args e (stop_of why)
 
 -- after it was started: no run is opened, a line is not answered, or an out file is not written
 abbrev pub StopsWatched : ℕ → Files → Exchange → (Written → Type 0) → RunJob Text → AcceptedView
     → List Argument → Halt → Type 0
 StopsWatched most files e wrote job accepted args =
-    StopsAt wrote (StopsWatching most (vlenb_of job.vlen) job.max accepted args e)
+    StopsAt wrote
+    (StopsWatching most (vlenb_of job.vlen) job.agnostic job.max accepted args e)
     (IsStopped (vlenb_of job.vlen) job.agnostic job.max accepted args e)
     (λ kept why. IsUnwritten files wrote job.params kept (stop_of why))
 

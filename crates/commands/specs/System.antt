@@ -1,6 +1,10 @@
 -- What is done to files of the system, where it is known what they are.
 use Rattle.std.specs.Prelude.{◌≡◌, if◌then◌else◌, ℕ, List, [], take, Option, Some, None}
 use Rattle.std.specs.Str.{bytes_eq}
+use Rattle.job_file.specs.declared.values.RunParam.{RunParam}
+use Rattle.job_file.specs.declared.values.RunParam.TheVariants as given
+use Rattle.region_mem.specs.Parameter.{Argument}
+use Rattle.region_mem.specs.declared.arguments.Arg.TheVariants as argument
 
 -- what the file at a path has, if there is one
 abbrev pub Known : Type 0
@@ -17,6 +21,12 @@ abbrev pub IsFirst : Option Known → List ℕ → ℕ → List ℕ → Type 0
 IsFirst None path most first = Unit {0}
 IsFirst (Some files) path most first =
     (bytes : List ℕ) × (files path ≡ Some bytes) × (first ≡ take most bytes)
+
+-- the same of the file of a place, where it passes one
+abbrev pub IsFirstOf : Option Known → ℕ → RunParam (List ℕ) → Argument → Type 0
+IsFirstOf files most (given.Buffer file out) arg =
+    (bytes : List ℕ) × IsFirst files file most bytes × (arg ≡ argument.Buffer bytes)
+IsFirstOf files most other arg = Unit {0}
 
 -- the file at a path has these bytes, and no other file changes
 abbrev pub IsPut : Option Known → Option Known → List ℕ → List ℕ → Type 0

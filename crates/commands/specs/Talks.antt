@@ -9,8 +9,10 @@ use Rattle.monitor.specs.declared.commands.Flow.TheVariants as flow
 use Rattle.monitor.specs.declared.commands.MonError.{MonError}
 use Rattle.monitor.specs.declared.commands.MonError.TheVariants as error
 use Rattle.sandbox_run.specs.Session.{SessionView}
-use Rattle.commands.specs.Streams.{Exchange, Prints, Stream}
+use Rattle.commands.specs.Streams.{Exchange, IsCut, Prints, Stream}
 use Rattle.commands.specs.Texts.{monitor_error_name}
+use Rattle.commands.specs.Words.{Stop}
+use Rattle.commands.specs.declared.stop.Stop.TheVariants as stop
 
 -- a run, and the addresses at which it stops
 pub record Watch : Type 0 where
@@ -137,3 +139,38 @@ pub record Talks (vlenb : ℕ) (before after : Option (List ℕ)) (had has : Str
 abbrev pub AreTold : ℕ → Exchange → SessionView → SessionView → Type 0
 AreTold vlenb e opened left = (breakpoints : List ℕ)
     × Talks vlenb e.before.rest e.after.rest e.had e.has (watch [] opened) (watch breakpoints left)
+
+-- ---- lines that are not answered
+
+-- why a line is not answered, where `later` is what was read behind it: memory ran out, and nothing
+-- was printed of it; or it has its end, and of its answer no more than the beginning was printed,
+-- before a write failed. `now` and `has` are standard output before and after
+abbrev pub IsCutOff : ℕ → List ℕ → List ℕ → Stream → Stream → Watch → Stop → Type 0
+IsCutOff vlenb line later now has w stop.Memory = has ≡ now
+IsCutOff vlenb line later now has w stop.Output = (rest : List ℕ) × (later ≡ 10 ∷ rest)
+    × (new : Watch) × (answer : List ℕ) × (f : Flow) × IsAnswered vlenb line w new answer f
+    × IsCut now has answer
+IsCutOff vlenb line later now has w other = ⊥
+
+-- all lines that these bytes end are answered, their answers are all that was printed, and of what
+-- is behind them, of standard output and of the run as they then stand `is` holds
+pub record IsLeft (vlenb : ℕ) (bytes : List ℕ) (had : Stream) (old : Watch)
+    (is : List ℕ → Stream → Watch → Type 0) : Type 0 where
+  pub left : List ℕ
+  pub mid : Watch
+  pub text : List ℕ
+  pub stands : Stands vlenb bytes left old mid text
+  pub now : Stream
+  pub told : Prints had now text
+  pub there : is left now mid
+
+-- the first lines of these bytes are answered, and then one is not
+abbrev pub IsBroken : ℕ → List ℕ → Stream → Stream → Watch → Stop → Type 0
+IsBroken vlenb bytes had has old reason = (before : List ℕ) × (later : List ℕ)
+    × (bytes ≡ before ++ later) × IsLeft vlenb before had old
+    (λ line now mid. IsCutOff vlenb line later now has mid reason)
+
+-- the last line, which needs no end, is not answered
+abbrev pub IsLastBroken : ℕ → List ℕ → Stream → Stream → Watch → Stop → Type 0
+IsLastBroken vlenb bytes had has old reason = IsLeft vlenb bytes had old
+    (λ line now mid. IsCutOff vlenb line (10 ∷ []) now has mid reason)

@@ -1,6 +1,7 @@
 -- What `try` does.
 use Rattle.std.specs.Prelude.{◌≡◌, ◌-◌, ◌^◌, Bool, ℕ, min, List, length, map, Option, Some, None, IfSome, Result, Ok, Err}
 use Rattle.std.specs.List.{zip}
+use Rattle.std.specs.Result.{result_map_both}
 use Rattle.job_file.specs.Needs.{try_job_in}
 use Rattle.job_file.specs.declared.values.JobError.TheVariants.{BadKey}
 use Rattle.job_file.specs.declared.values.RunParam.{RunParam}
@@ -14,19 +15,22 @@ use Rattle.region_mem.specs.declared.arguments.Arg.TheVariants as argument
 use Rattle.region_mem.specs.declared.parameter.ArgError.{ArgError}
 use Rattle.region_mem.specs.declared.parameter.Param.{Param}
 use Rattle.region_mem.specs.declared.parameter.Param.TheVariants as parameter
+use Rattle.sandbox_run.specs.Answer.{last_pc}
 use Rattle.sandbox_run.specs.Errors.{open_error_of}
-use Rattle.commands.specs.Did.{did_of, place_line, place_text}
+use Rattle.commands.specs.Did.{did_of}
 use Rattle.commands.specs.Files.{ArePassed, Files, IsImageAt, IsNoImageAt, IsUnpassed, outs_of}
 use Rattle.commands.specs.Halt.{stop_of}
+use Rattle.commands.specs.Stands.{stand_line, stand_text}
 use Rattle.commands.specs.Steps.{StopsAt, StopsAtJob}
 use Rattle.commands.specs.Streams.{Change, Prints, Wrote}
 use Rattle.commands.specs.Trial.{StopsAtTrial, told_of, trial_from}
 use Rattle.commands.specs.Why.{ExplainsJob, ExplainsOpened}
-use Rattle.commands.specs.Words.{Agnostic, Argument, Gains, Halt, ImageView, Members, start, Stop, Text, vlenb_of}
+use Rattle.commands.specs.Words.{Agnostic, Argument, Gains, Halt, ImageView, Machine, Members, start, Stop, Text, vlenb_of}
 use Rattle.commands.specs.declared.did.Did.{Did}
-use Rattle.commands.specs.declared.did.Place.{Place}
+use Rattle.commands.specs.declared.stands.Stand.{Stand}
 use Rattle.commands.specs.declared.stop.Stop.TheVariants as stop
 use Rattle.commands.specs.declared.trial.Trial.{Trial}
+use Rattle.commands.specs.declared.tries.Tried.{Tried}
 
 -- ---- a run
 
@@ -71,6 +75,19 @@ abbrev pub trial_of : TryJob Text → ImageView → List Argument → Result Tri
 trial_of job image args =
     with_parameters job image args (parameters_of (params_for job.params args))
 
+-- the state in which the run of a job begins
+abbrev pub begins : TryJob Text → ImageView → List Argument → Machine
+begins job image args =
+    start (vlenb_of job.vlen) job.agnostic image (params_for job.params args) args
+
+-- pc of the state before the last of so many steps of it, if there was one
+abbrev pub last_of : TryJob Text → ImageView → List Argument → ℕ → Option ℕ
+last_of job image args = last_pc (vlenb_of job.vlen) (begins job image args)
+
+-- what came of a run, or the reason to stop
+abbrev pub bare_tried : Result Tried Halt → Result Trial Stop
+bare_tried answer = result_map_both (λ tried. tried.trial) stop_of answer
+
 -- ---- what is passed
 
 -- what a parameter of `try` passes, as one of `run` does
@@ -83,7 +100,7 @@ passed_by (taken.Buffer mode file out) = given.Buffer file out
 
 -- `try` on a job's table: what comes of the job on its image is printed, with the registers or
 -- without, and the out files of all places were written with the buffers as the run left them; what
--- more is told is how the run ended and where it stands, or nothing
+-- more is told is how the run ended, where it stands and why, or nothing
 pub record Tries (files : Files) (registers : Bool) (table : Members) (c : Change) (d : Did)
     : Type 0 where
   pub job : TryJob Text
@@ -96,9 +113,10 @@ pub record Tries (files : Files) (registers : Bool) (table : Members) (c : Chang
   pub comes : trial_of job image args ≡ Ok trial
   pub wrote : Gains c.was c.has (outs_of (map passed_by job.params) trial.args.places)
   pub told : Prints c.old c.new (told_of registers trial)
-  pub place : Option Place
-  pub stands : IfSome place (λ at. place_text at ≡ place_line image trial.registers.pc)
-  pub done : d ≡ did_of trial.end place
+  pub stand : Option Stand
+  pub stands : IfSome stand (λ at. stand_text at
+      ≡ stand_line image (last_of job image args trial.steps) trial.registers trial.end)
+  pub done : d ≡ did_of trial.end stand
 
 -- ---- why it stops
 

@@ -9,8 +9,9 @@ use Rattle.check_reasons.specs.Check.{IsListed, IsWanted}
 use Rattle.check_reasons.specs.declared.check.CheckReason.{CheckReason}
 use Rattle.explanations.specs.Certificate.{IsReason}
 use Rattle.explanations.specs.Image.{Tells}
-use Rattle.explanations.specs.Make.{IsWordReason, attach_reason, parameter_reason}
-use Rattle.explanations.specs.declared.make.MakeReason.{MakeReason}
+use Rattle.explanations.specs.Loops.{IsLoopReason}
+use Rattle.explanations.specs.Make.{attach_reason, parameter_reason}
+use Rattle.explanations.specs.declared.loops.LoopReason.{LoopReason}
 use Rattle.job_reasons.specs.Job.{IsJobReason}
 use Rattle.job_reasons.specs.declared.job.Command.{Command}
 use Rattle.open_reasons.specs.Open.{reason_of}
@@ -32,7 +33,6 @@ ByStep (Ok a) fails later why = later a why
 abbrev pub ExplainsJob : Command → List ℕ → Halt → Type 0
 ExplainsJob command text (halt.Job reason) = IsJobReason command text (Some reason.value)
 ExplainsJob command text (halt.Parameters reason) = ⊥
-ExplainsJob command text halt.LargeFile = ⊥
 ExplainsJob command text other = Unit {0}
 
 -- ---- an image
@@ -73,18 +73,18 @@ ExplainsAccepted vlen image =
 
 -- ---- a certificate that is made
 
-abbrev pub IsMakeReason : ImageView → MakeError → MakeReason → Type 0
-IsMakeReason image (make_error.NotALoopOfTheClass pc) told = IsWordReason image pc told
-IsMakeReason image make_error.NoMemory told = ⊥
+abbrev pub IsMakeReason : List Param → ImageView → MakeError → LoopReason → Type 0
+IsMakeReason params image (make_error.NotALoopOfTheClass pc) told =
+    IsLoopReason params image pc told
+IsMakeReason params image make_error.NoMemory told = ⊥
 
 -- why there is no certificate of the loop in an image for these parameters
 abbrev pub ExplainsLoop : List Param → ImageView → Halt → Type 0
 ExplainsLoop params image (halt.Parameters reason) =
     IfSome reason (λ kept. kept.value ≡ parameter_reason params)
 ExplainsLoop params image (halt.Make why) =
-    IfSome why.reason (λ kept. IsMakeReason image why.error kept.value)
+    IfSome why.reason (λ kept. IsMakeReason params image why.error kept.value)
 ExplainsLoop params image (halt.Job reason) = ⊥
-ExplainsLoop params image halt.LargeFile = ⊥
 ExplainsLoop params image other = Unit {0}
 
 -- why a file, whose image has this certificate, takes none of so many bytes
@@ -96,12 +96,13 @@ ExplainsAttached file there size other = Unit {0}
 
 -- ---- a run
 
--- why no run of these arguments is opened: of parameters that there can't be it is told that a file
--- is too large
+-- why no run of these arguments is opened: of parameters that there can't be, the first such is
+-- told
 abbrev pub ExplainsOpened : List Param → List Argument → ℕ → ℕ → Halt → Type 0
 ExplainsOpened params args bound max (halt.Open refusal) =
     refusal.reason ≡ reason_of params args bound max refusal.error
 ExplainsOpened params args bound max (halt.Job reason) = ⊥
 ExplainsOpened params args bound max (halt.UntoldJob error) = ⊥
-ExplainsOpened params args bound max (halt.Parameters reason) = ⊥
+ExplainsOpened params args bound max (halt.Parameters reason) =
+    IfSome reason (λ kept. kept.value ≡ parameter_reason params)
 ExplainsOpened params args bound max other = Unit {0}

@@ -1,6 +1,6 @@
 //! The files of a job: what is read before its run, and what is written after it.
-ghost use Rattle.std.specs.Prelude.{◌≡◌, IfErr, MatchResult, Some, length, map, option_map};
-ghost use Rattle.std.specs.Prelude.{true};
+ghost use Rattle.std.specs.Prelude.{◌≡◌, ◌⊎◌, ◌-◌, ◌^◌, IfErr, IfOk, MatchResult, Some, length};
+ghost use Rattle.std.specs.Prelude.{map, option_map, true};
 ghost use Rattle.job_file.specs.Needs.{run_param_lent};
 ghost use Rattle.toml.specs.Parse.{parse_document};
 ghost use Rattle.toml.specs.View.{table_view};
@@ -10,6 +10,7 @@ ghost use Rattle.commands.specs.Files.{ArePassed, AreWritten, IsImageAt, IsNoIma
 ghost use Rattle.commands.specs.Files.{IsJobAt, IsNoTableAt, IsOfParam, IsOutWritten, IsPassed};
 ghost use Rattle.commands.specs.Files.{IsUnpassed, IsWritten, files_of, image_in, out_file};
 ghost use Rattle.commands.specs.Halt.{bare};
+ghost use Rattle.commands.specs.System.{IsFirst, IsFirstOf};
 ghost use Rattle.commands.specs.Why.{ExplainsImage};
 
 use crate::halt::Halt;
@@ -44,7 +45,10 @@ fn read<'a, S: Store>(
     ensures bytes { MatchResult (bare result)
         (λ bytes. (files_of (S.held store.old)).holds path.entry.now bytes.items)
         (IsOfFile (files_of (S.held store.old)).unread path.entry.now) }
+    ensures first { IfOk result (λ bytes.
+        IsFirst (S.known store.old) path.entry.now most bytes.items) }
     ensures files { S.held store.new ≡ S.held store.old }
+    ensures known { S.known store.new ≡ S.known store.old }
 {
     match store.read(alloc, path, most) {
         Ok(bytes) => Ok(bytes),
@@ -70,6 +74,8 @@ pub fn read_table<'a, S: Store>(
         (λ file. IsJobAt (files_of (S.held store.old)) path.entry.now file.text.items
         (table_view file.table))
         (IsNoTableAt command (files_of (S.held store.old)) path.entry.now) }
+    ensures first { IfOk result (λ file.
+        IsFirst (S.known store.old) path.entry.now (2 ^ 64 - 1) file.text.items) }
     ensures files { S.held store.new ≡ S.held store.old }
 {
     let text = read(alloc, path, usize::MAX, store)?;
@@ -111,6 +117,9 @@ pub fn read_image_file<'a, S: Store>(
     ensures bytes { MatchResult (bare result)
         (λ bytes. (files_of (S.held store.old)).holds path.entry.now bytes.items)
         (IsOfFile (files_of (S.held store.old)).unread path.entry.now) }
+    ensures first { IfOk result (λ bytes.
+        IsFirst (S.known store.old) path.entry.now MOST_OF_IMAGE bytes.items
+        ⊎ IsFirst (S.known store.old) path.entry.now (2 ^ 64 - 1) bytes.items) }
     ensures files { S.held store.new ≡ S.held store.old }
 {
     let bytes = read(alloc, path, MOST_OF_IMAGE, store)?;
@@ -173,6 +182,8 @@ fn read_arg<'a, S: Store>(
     ensures passed { MatchResult (bare result)
         (IsPassed (files_of (S.held store.old)) (run_param_lent param.now))
         (IsOfParam (files_of (S.held store.old)) (run_param_lent param.now)) }
+    ensures first { IfOk result
+        (IsFirstOf (S.known store.old) MOST_OF_BUFFER (run_param_lent param.now)) }
     ensures files { S.held store.new ≡ S.held store.old }
 {
     match param {

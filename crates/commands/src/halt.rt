@@ -10,11 +10,10 @@ use cert_maker::MakeError;
 use cert_note::CertError;
 use check_reasons::CheckReason;
 use elf_image::ElfError;
-use explanations::{CertificateReason, ImageReason, MakeReason, Refusal};
+use explanations::{CertificateReason, ImageReason, LoopReason, MakeReason, Refusal};
 use job_file::JobError;
 use job_reasons::JobReason;
 use open_reasons::OpenReason;
-use region_mem::MAX_BUFFER_SIZE;
 use sandbox_run::OpenError;
 use std::alloc::AllocError;
 use std::fmt;
@@ -29,8 +28,6 @@ pub enum Halt<'a> {
     UntoldJob(JobError),
     /// The parameters of a job are refused, for this reason where memory sufficed to keep it.
     Parameters(Option<Box<MakeReason>>),
-    /// A buffer's file is too large.
-    LargeFile,
     /// The file at the path was not read or not written, and the line has what the system says of it, if it says anything.
     File(&'a str, Option<String>),
     /// A file is no image.
@@ -44,7 +41,7 @@ pub enum Halt<'a> {
     /// The check refuses an image with its certificate.
     Check(Reasoned<CheckError, CheckReason>),
     /// No certificate is made of an image.
-    Make(Reasoned<MakeError, MakeReason>),
+    Make(Reasoned<MakeError, LoopReason>),
     /// No run is opened.
     Open(Refusal<OpenError, OpenReason>),
     /// Memory ran out.
@@ -71,7 +68,7 @@ impl<'a> Halt<'a> {
         match self {
             Halt::Job(reason) => Stop::Job(error_of(reason.as_ref())),
             Halt::UntoldJob(error) => Stop::Job(*error),
-            Halt::Parameters(_) | Halt::LargeFile => Stop::Job(JobError::BadKey),
+            Halt::Parameters(_) => Stop::Job(JobError::BadKey),
             Halt::File(path, _) => Stop::File(*path),
             Halt::Image(why) => Stop::Image(why.error),
             Halt::Attach(why) => Stop::Image(why.error),
@@ -105,12 +102,6 @@ impl fmt::Display for Halt<'_> {
             Halt::Job(reason) => write!(f, "{reason}"),
             Halt::Parameters(None) => Ok(()),
             Halt::Parameters(Some(reason)) => write!(f, "{reason}"),
-            Halt::LargeFile => {
-                writeln!(
-                    f,
-                    "  wanted: for each buffer a file of at most {MAX_BUFFER_SIZE} bytes"
-                )
-            }
             Halt::File(_, None) => Ok(()),
             Halt::File(_, Some(line)) => write!(f, "{line}"),
             Halt::Image(why) => write!(f, "{why}"),

@@ -4,8 +4,8 @@
 //!
 //! - `starts` has what those on a job begin with, `files` what is read, and the out files, `accepted` an image with its
 //!   certificate.
-//! - `sources` and `lines` have the input of `mon`, `trial` what comes of a run, `registers` those that it left, `did`
-//!   what was done.
+//! - `sources` and `lines` have the input of `mon`, `trial` what comes of a run, `registers` those that it left, `stands`
+//!   where it stopped, `did` what was done.
 //! - `stop` has statuses and reasons to stop. `texts` and `escapes` have how those are told, `halt` what more is told of
 //!   them, `why` of what they are.
 //! - `store` has where files are, `system` those of the system, and `memory` files in memory.
@@ -25,6 +25,7 @@ mod reasoned;
 mod registers;
 mod runs;
 mod sources;
+mod stands;
 mod starts;
 mod stop;
 mod store;

@@ -1,12 +1,12 @@
 //! Lines of the input, each answered before the next.
-ghost use Rattle.std.specs.Prelude.{◌≡◌, ◌++◌, ◌∷◌, [], ℕ, List, IfErr, IfOk, OnOk};
+ghost use Rattle.std.specs.Prelude.{◌≡◌, ◌≤◌, ◌+◌, ◌++◌, ◌∷◌, [], ℕ, List, IfErr, IfOk, OnOk};
 ghost use Rattle.monitor.specs.Commands.{order_of};
 ghost use Rattle.rv_listing.specs.Sinks.{IsPassedOn};
 ghost use Rattle.commands.specs.Halt.{stop_of};
-ghost use Rattle.commands.specs.Mons.{HasPrinted, IsBroken, IsOfInput, IsUnanswered};
+ghost use Rattle.commands.specs.Mons.{IsOfInput, IsUnanswered};
 ghost use Rattle.commands.specs.Streams.{Prints, exchange, source, stream};
-ghost use Rattle.commands.specs.Talks.{GoesOver, IsAnswered, IsDone, IsLine, Talks, answer_of};
-ghost use Rattle.commands.specs.Talks.{error_line, flow_after, watch};
+ghost use Rattle.commands.specs.Talks.{GoesOver, IsAnswered, IsBroken, IsCutOff, IsDone, IsLine};
+ghost use Rattle.commands.specs.Talks.{Talks, answer_of, error_line, flow_after, watch};
 ghost use Rattle.commands.specs.declared.stop.Stop.TheVariants.{Memory};
 
 use crate::halt::Halt;
@@ -97,9 +97,10 @@ fn answer<'a, const VLENB: usize, O: Stream>(
         (watch monitor.old.breakpoints.items monitor.old.session.now)
         (watch monitor.new.breakpoints.items monitor.new.session.now) text f) }
     ensures passed { OnOk result (IsPassedOn (O.passed output.new) (O.contents output.new)) }
-    ensures unanswered { IfErr result (λ halt. IsBroken
+    ensures unanswered { IfErr result (λ halt. IsCutOff VLENB line.now (10 ∷ [])
         (stream (O.contents output.old) (O.failures output.old))
-        (stream (O.contents output.new) (O.failures output.new)) (stop_of halt)) }
+        (stream (O.contents output.new) (O.failures output.new))
+        (watch monitor.old.breakpoints.items monitor.old.session.now) (stop_of halt)) }
 {
     let (flow, text) = answered(alloc, monitor, line)?;
     match print(output, text.as_slice()) {
@@ -124,12 +125,11 @@ fn answer_byte<'a, const VLENB: usize, O: Stream>(
         (stream (O.contents output.new) (O.failures output.new))
         (watch monitor.old.breakpoints.items monitor.old.session.now)
         (watch monitor.new.breakpoints.items monitor.new.session.now) f) }
-    ensures printed { OnOk result (HasPrinted
+    ensures unanswered { IfErr result (λ halt. IsLine line.old.items → IsBroken VLENB
+        (line.old.items ++ (byte ∷ []))
         (stream (O.contents output.old) (O.failures output.old))
-        (stream (O.contents output.new) (O.failures output.new))) }
-    ensures unanswered { IfErr result (λ halt. IsBroken
-        (stream (O.contents output.old) (O.failures output.old))
-        (stream (O.contents output.new) (O.failures output.new)) (stop_of halt)) }
+        (stream (O.contents output.new) (O.failures output.new))
+        (watch monitor.old.breakpoints.items monitor.old.session.now) (stop_of halt)) }
 {
     if byte != b'\n' {
         return match line.push(byte) {
@@ -158,12 +158,11 @@ fn answer_bytes<'a, const VLENB: usize, O: Stream>(
         (stream (O.contents output.new) (O.failures output.new))
         (watch monitor.old.breakpoints.items monitor.old.session.now)
         (watch monitor.new.breakpoints.items monitor.new.session.now) f) }
-    ensures printed { OnOk result (HasPrinted
+    ensures unanswered { IfErr result (λ halt. IsLine line.old.items → IsBroken VLENB
+        (line.old.items ++ bytes.now)
         (stream (O.contents output.old) (O.failures output.old))
-        (stream (O.contents output.new) (O.failures output.new))) }
-    ensures unanswered { IfErr result (λ halt. IsBroken
-        (stream (O.contents output.old) (O.failures output.old))
-        (stream (O.contents output.new) (O.failures output.new)) (stop_of halt)) }
+        (stream (O.contents output.new) (O.failures output.new))
+        (watch monitor.old.breakpoints.items monitor.old.session.now) (stop_of halt)) }
 {
     for byte in bytes {
         match answer_byte(alloc, monitor, line, *byte, output)? {
@@ -199,13 +198,14 @@ pub fn answer_lines<'a, const VLENB: usize, I: Source, O: Stream>(
         (stream (O.contents output.new) (O.failures output.new))
         (watch monitor.old.breakpoints.items monitor.old.session.now)
         (watch monitor.new.breakpoints.items monitor.new.session.now)) }
-    ensures unanswered { IfErr result (λ halt. IsUnanswered reads
+    ensures few { I.reads input.new ≤ I.reads input.old + reads }
+    ensures unanswered { IfErr result (λ halt. IsUnanswered reads VLENB
         (exchange
         (source (I.remaining input.old) (I.reads input.old) (I.failures input.old))
         (source (I.remaining input.new) (I.reads input.new) (I.failures input.new))
         (stream (O.contents output.old) (O.failures output.old))
         (stream (O.contents output.new) (O.failures output.new)))
-        (stop_of halt)) }
+        (watch monitor.old.breakpoints.items monitor.old.session.now) (stop_of halt)) }
 {
     let mut line = Vec::new(alloc);
     let mut chunk = [0u8; 4096];

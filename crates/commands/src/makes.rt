@@ -6,9 +6,9 @@ ghost use Rattle.commands.specs.Accepted.{IsOrWant};
 ghost use Rattle.commands.specs.Ending.{Ends};
 ghost use Rattle.commands.specs.Files.{OfTable, StopsOfTable, files_of, image_in};
 ghost use Rattle.commands.specs.Halt.{bare};
-ghost use Rattle.commands.specs.Makes.{AnswersBytes, ExplainsMade, ExplainsReadBack, Makes};
+ghost use Rattle.commands.specs.Makes.{AnswersBytes, ExplainsMaking, ExplainsReadBack, Makes};
 ghost use Rattle.commands.specs.Makes.{StopsMake, accepted_in, bytes_of, certificate_for};
-ghost use Rattle.commands.specs.Makes.{made_of, with_certificate};
+ghost use Rattle.commands.specs.Makes.{made_for, with_certificate};
 ghost use Rattle.commands.specs.Trial.{OrMemory};
 ghost use Rattle.commands.specs.Streams.{Wrote, change, stream};
 ghost use Rattle.commands.specs.Why.{ExplainsAttached, ExplainsLoop};
@@ -98,7 +98,8 @@ fn make_table<'a, S: Store, O: Stream>(
 {
     let job = taken(alloc, make_job_in(table), text, Command::Make)?;
     let file = read_image_file(alloc, paths.image, store)?;
-    let bytes = made(alloc, &job, file.as_slice())?;
+    let image = image_in(alloc, file.as_slice())?;
+    let bytes = made(alloc, &job, file.as_slice(), &image)?;
     let budget = read_back(alloc, &job, bytes.as_slice())?.budget();
     write(alloc, paths.out, bytes.as_slice(), store)?;
     match print_bound(&budget, output) {
@@ -117,7 +118,7 @@ fn certificate_for<'a>(alloc: Global, job: &MakeJob, image: &Image) -> Result<Ce
     };
     match make(alloc, image, &parameters, job.vlen) {
         Ok(certificate) => Ok(certificate),
-        Err(error) => Err(not_made(alloc, image, error)),
+        Err(error) => Err(not_made(alloc, image, &job.params, error)),
     }
 }
 
@@ -139,15 +140,16 @@ fn with_certificate<'a>(
     }
 }
 
-/// A file with the certificate that is made of it for a job.
-fn made<'a>(alloc: Global, job: &MakeJob, file: &[u8]) -> Result<Vec<u8>, Halt<'a>>
-    ensures image { IfErr (image_in file.now) (λ reason. bytes_of result ≡ Err reason) }
-    ensures answer { AnswersBytes (made_of job.now file.now) result }
-    ensures told { IfErr result (ExplainsMade job.now file.now) }
+/// A file with the certificate that is made of its image for a job. Want of memory comes only where
+/// there is such a certificate.
+fn made<'a>(alloc: Global, job: &MakeJob, file: &[u8], image: &Image) -> Result<Vec<u8>, Halt<'a>>
+    ensures certificate { IfErr (certificate_for job.now image.now)
+        (λ reason. bytes_of result ≡ Err reason) }
+    ensures answer { AnswersBytes (made_for job.now file.now image.now) result }
+    ensures told { IfErr result (ExplainsMaking job.now file.now image.now) }
 {
-    let image = image_in(alloc, file)?;
-    let certificate = certificate_for(alloc, job, &image)?;
-    with_certificate(alloc, file, &image, &certificate)
+    let certificate = certificate_for(alloc, job, image)?;
+    with_certificate(alloc, file, image, &certificate)
 }
 
 /// What is accepted where a file that was made is read back.

@@ -1,6 +1,6 @@
 //! Files in memory, and exactly what is read and written of them.
 ghost use Rattle.std.specs.Prelude.{◌≡◌, ◌⊎◌, ◌++◌, [], List, MatchResult, None, Some, IfOk, map};
-ghost use Rattle.std.specs.Prelude.{option_map, ℕ};
+ghost use Rattle.std.specs.Prelude.{option_map, ℕ, ◌≤◌, ◌+◌};
 ghost use Rattle.commands.specs.Corollary.{IsBoundOf, IsMadeOf, IsRunOf, IsTrialOf};
 ghost use Rattle.commands.specs.Checks.{Checks, StopsCheck};
 ghost use Rattle.commands.specs.Corollary.{IsWatchOf};
@@ -299,6 +299,7 @@ pub fn mon_memory<I: Source>(
         (stream (Some output.new.writer.items) output.new.failures)) in
         result ≡ status.Done
         → IsWatchOf (held_by memory.old) (held_by memory.new) path.now e }
+    ensures few { I.reads input.new ≤ I.reads input.old + MOST_READS }
     ensures ends { let e = (exchange
         (source (I.remaining input.old) (I.reads input.old) (I.failures input.old))
         (source (I.remaining input.new) (I.reads input.new) (I.failures input.new))

@@ -1,5 +1,5 @@
 //! `mon`: commands on the run of an image that is accepted.
-ghost use Rattle.std.specs.Prelude.{◌≡◌, IfErr, MatchResult, OnOk};
+ghost use Rattle.std.specs.Prelude.{◌≡◌, ◌≤◌, ◌+◌, [], IfErr, MatchResult, OnOk};
 ghost use Rattle.toml.specs.View.{table_view};
 ghost use Rattle.vreg_groups.specs.VectorLength.{IsVlenb, vlenb_of};
 ghost use Rattle.commands.specs.Ending.{Ends};
@@ -8,7 +8,7 @@ ghost use Rattle.commands.specs.Halt.{stop_of};
 ghost use Rattle.commands.specs.Mons.{BeforeAll, IsStopped, IsUnanswered, Mons, StopsMon};
 ghost use Rattle.commands.specs.Mons.{StopsWatching};
 ghost use Rattle.commands.specs.Streams.{exchange, source, stream};
-ghost use Rattle.commands.specs.Talks.{AreTold};
+ghost use Rattle.commands.specs.Talks.{AreTold, watch};
 ghost use Rattle.commands.specs.Written.{Gains};
 
 use crate::did::Did;
@@ -47,7 +47,7 @@ pub fn mon_job<S: Store, I: Source, O: Stream, E: Sink>(
     output: &mut O,
     errors: &mut E,
 ) -> Status
-    ensures { let e = (exchange
+    ensures ends { let e = (exchange
         (source (I.remaining input.old) (I.reads input.old) (I.failures input.old))
         (source (I.remaining input.new) (I.reads input.new) (I.failures input.new))
         (stream (O.contents output.old) (O.failures output.old))
@@ -60,6 +60,7 @@ pub fn mon_job<S: Store, I: Source, O: Stream, E: Sink>(
         (StopsMon MOST_READS (files_of (S.held store.old)) e wrote))
         (stream (E.contents errors.old) (E.failures errors.old))
         (stream (E.contents errors.new) (E.failures errors.new)) result }
+    ensures few { I.reads input.new ≤ I.reads input.old + MOST_READS }
 {
     mon_job_within(
         alloc, path, explain, store, input, output, errors, MOST_READS,
@@ -78,7 +79,7 @@ pub fn mon_job_within<S: Store, I: Source, O: Stream, E: Sink>(
     errors: &mut E,
     reads: u64,
 ) -> Status
-    ensures { let e = (exchange
+    ensures ends { let e = (exchange
         (source (I.remaining input.old) (I.reads input.old) (I.failures input.old))
         (source (I.remaining input.new) (I.reads input.new) (I.failures input.new))
         (stream (O.contents output.old) (O.failures output.old))
@@ -91,6 +92,7 @@ pub fn mon_job_within<S: Store, I: Source, O: Stream, E: Sink>(
         (StopsMon reads (files_of (S.held store.old)) e wrote))
         (stream (E.contents errors.old) (E.failures errors.old))
         (stream (E.contents errors.new) (E.failures errors.new)) result }
+    ensures few { I.reads input.new ≤ I.reads input.old + reads }
 {
     on_table!(alloc, path, Command::Mon, explain, store, errors; table, text =>
         mon_table(alloc, table, text, store, input, output, reads))
@@ -106,7 +108,7 @@ fn mon_table<'a, S: Store, I: Source, O: Stream>(
     output: &mut O,
     reads: u64,
 ) -> Result<Did, Halt<'a>>
-    ensures { let e = (exchange
+    ensures done { let e = (exchange
         (source (I.remaining input.old) (I.reads input.old) (I.failures input.old))
         (source (I.remaining input.new) (I.reads input.new) (I.failures input.new))
         (stream (O.contents output.old) (O.failures output.old))
@@ -116,6 +118,7 @@ fn mon_table<'a, S: Store, I: Source, O: Stream>(
         (S.held store.old) (S.held store.new))
         (StopsMon reads (files_of (S.held store.old)) e
         (Gains (S.held store.old) (S.held store.new)) text.now (table_view table.entry.now)) }
+    ensures few { I.reads input.new ≤ I.reads input.old + reads }
 {
     let Start { ready, args } = started(alloc, table, text, Command::Mon, store)?;
     let kept = mon_accepted(alloc, &ready, args, input, output, reads)?;
@@ -133,7 +136,7 @@ fn mon_accepted<'a, I: Source, O: Stream>(
     output: &mut O,
     reads: u64,
 ) -> Result<Args, Halt<'a>>
-    ensures { let e = (exchange
+    ensures stopped { let e = (exchange
         (source (I.remaining input.old) (I.reads input.old) (I.failures input.old))
         (source (I.remaining input.new) (I.reads input.new) (I.failures input.new))
         (stream (O.contents output.old) (O.failures output.old))
@@ -141,8 +144,9 @@ fn mon_accepted<'a, I: Source, O: Stream>(
         MatchResult result
         (λ kept. IsStopped (vlenb_of ready.now.job.vlen) ready.now.job.agnostic ready.now.job.max
         ready.now.accepted args.places e kept.places)
-        (StopsWatching reads (vlenb_of ready.now.job.vlen) ready.now.job.max ready.now.accepted
-        args.places e) }
+        (StopsWatching reads (vlenb_of ready.now.job.vlen) ready.now.job.agnostic
+        ready.now.job.max ready.now.accepted args.places e) }
+    ensures few { I.reads input.new ≤ I.reads input.old + reads }
 {
     match ready.job.vlen {
         Vlen::V128 => mon_session::<16, I, O>(alloc, ready, args, input, output, reads),
@@ -167,13 +171,14 @@ fn watch<'a, const VLENB: usize, I: Source, O: Stream>(
         (stream (O.contents output.old) (O.failures output.old))
         (stream (O.contents output.new) (O.failures output.new)))
         session.old session.new) }
-    ensures unanswered { IfErr result (λ halt. IsUnanswered reads
+    ensures few { I.reads input.new ≤ I.reads input.old + reads }
+    ensures unanswered { IfErr result (λ halt. IsUnanswered reads VLENB
         (exchange
         (source (I.remaining input.old) (I.reads input.old) (I.failures input.old))
         (source (I.remaining input.new) (I.reads input.new) (I.failures input.new))
         (stream (O.contents output.old) (O.failures output.old))
         (stream (O.contents output.new) (O.failures output.new)))
-        (stop_of halt)) }
+        (watch [] session.old) (stop_of halt)) }
 {
     let mut monitor = Monitor::new(session);
     answer_lines(alloc, &mut monitor, input, output, reads)
@@ -188,7 +193,7 @@ fn mon_session<'a, const VLENB: usize, I: Source, O: Stream>(
     reads: u64,
 ) -> Result<Args, Halt<'a>>
     requires { IsVlenb VLENB }
-    ensures { let e = (exchange
+    ensures stopped { let e = (exchange
         (source (I.remaining input.old) (I.reads input.old) (I.failures input.old))
         (source (I.remaining input.new) (I.reads input.new) (I.failures input.new))
         (stream (O.contents output.old) (O.failures output.old))
@@ -196,7 +201,9 @@ fn mon_session<'a, const VLENB: usize, I: Source, O: Stream>(
         MatchResult result
         (λ kept. IsStopped VLENB ready.now.job.agnostic ready.now.job.max ready.now.accepted
         args.places e kept.places)
-        (StopsWatching reads VLENB ready.now.job.max ready.now.accepted args.places e) }
+        (StopsWatching reads VLENB ready.now.job.agnostic ready.now.job.max ready.now.accepted
+        args.places e) }
+    ensures few { I.reads input.new ≤ I.reads input.old + reads }
 {
     let Ready { job, accepted } = ready;
     match Session::<VLENB>::open(alloc, accepted, args, job.agnostic, job.max) {

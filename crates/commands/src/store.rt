@@ -1,6 +1,6 @@
 //! Where a job's files are read and written.
 ghost use Rattle.std.specs.Io.KnownBytes.{Consumes, IsAtEnd};
-ghost use Rattle.std.specs.Prelude.{◌≡◌, ◌≤◌, ◌<◌, IfErr, IfOk, None, Ok, OnOk, Some, length};
+ghost use Rattle.std.specs.Prelude.{◌≡◌, ◌≤◌, ◌<◌, ◌+◌, IfErr, IfOk, None, Ok, OnOk, Some, length};
 ghost use Rattle.std.specs.Result.{is_err};
 ghost use Rattle.std.specs.IoError.{error_kind};
 ghost use Rattle.commands.specs.Ending.{store_error_of};
@@ -69,8 +69,8 @@ impl From<io::Error> for StoreError {
 pub trait Store {
     ghost use Rattle.std.specs.Prelude.{◌≡◌, IfErr, IfOk, MatchResult, OnOk, Option, None};
     ghost use Rattle.std.specs.declared.io.ErrorKind.{ErrorKind};
-    ghost use Rattle.commands.specs.Files.{files_of, if_failed};
-    ghost use Rattle.commands.specs.Streams.{Input, IsGivenUp};
+    ghost use Rattle.commands.specs.Files.{IsWritable, files_of, if_failed};
+    ghost use Rattle.commands.specs.Streams.{Input, IsGivenUp, IsWithin};
     ghost use Rattle.commands.specs.System.{IsFirst, IsPut, Known};
     ghost use Rattle.commands.specs.Written.{GainsOnOk, Held};
 
@@ -98,12 +98,14 @@ pub trait Store {
         ensures stays { known self.new ≡ known self.old }
         ensures unread { IfErr result (λ error. if_failed error
             (IsGivenUp MOST_READS (input self.old) (input self.new))) }
+        ensures few { IsWithin MOST_READS (input self.old) (input self.new) }
         ensures done { OnOk result (failure self.new ≡ None) };
 
     /// Makes a file at `path` that has these bytes, in place of what was there.
     fn write(&mut self, path: &str, bytes: &[u8]) -> Result<(), StoreError>
         ensures wrote { GainsOnOk (held self.old) (held self.new) (path.now, bytes.now) result }
         ensures put { OnOk result (IsPut (known self.old) (known self.new) path.now bytes.now) }
+        ensures may { OnOk result (IsWritable (held self.old) path.now) }
         ensures error { IfErr result ((files_of (held self.old)).unwritten path.now) }
         ensures done { OnOk result (failure self.new ≡ None) };
 
@@ -200,6 +202,7 @@ pub fn read_some<D: System>(
     ensures first { IfOk result (λ bytes. IsFirst (D.known system.old) path.now most bytes.items) }
     ensures most { IfOk result (λ bytes. length bytes.items ≤ most) }
     ensures kept { D.known system.new ≡ D.known system.old }
+    ensures few { D.reads system.new ≤ D.reads system.old + reads }
     ensures unread { IfErr result (λ error. if_failed error (IsUnread reads
         (source None (D.reads system.old) (D.failures system.old))
         (source None (D.reads system.new) (D.failures system.new)))) }
@@ -218,6 +221,7 @@ fn read_file<D: System>(
     ensures first { IfOk result (λ bytes. IsFirst (D.known system.old) path.now most bytes.items) }
     ensures most { IfOk result (λ bytes. length bytes.items ≤ most) }
     ensures kept { D.known system.new ≡ D.known system.old }
+    ensures few { D.reads system.new ≤ D.reads system.old + reads }
     ensures unread { IfErr result (λ error. if_failed (store_error_of (error_kind error))
         (IsUnread reads
         (source None (D.reads system.old) (D.failures system.old))
@@ -241,6 +245,7 @@ fn read_opened<D: System>(
     ensures end { IfOk result (λ bytes. length bytes.items < most
         → IsAtEnd (D.Reader.remaining file.new)) }
     ensures kept { D.known system.new ≡ D.known system.old }
+    ensures few { D.reads system.new ≤ D.reads system.old + reads }
     ensures unread { IfErr result (λ error. if_failed (store_error_of (error_kind error))
         (IsUnread reads
         (source None (D.reads system.old) (D.failures system.old))

@@ -2,19 +2,20 @@
 ghost use Rattle.std.specs.Prelude.{◌≡◌, ◌++◌, IfErr, IfOk, IfSome, None, OnOk, false, map};
 ghost use Rattle.job_file.specs.Needs.{run_param_lent};
 ghost use Rattle.rv_listing.specs.Sinks.{IsPassedOn, Told};
-ghost use Rattle.commands.specs.Did.{did_of, place_line, place_text, status_with};
-ghost use Rattle.commands.specs.Ending.{status_of_end};
+ghost use Rattle.commands.specs.Did.{did_of};
 ghost use Rattle.commands.specs.Files.{IsUnfinished, files_of, outs_of};
 ghost use Rattle.commands.specs.Halt.{stop_of};
+ghost use Rattle.commands.specs.Stands.{stand_line, stand_text};
 ghost use Rattle.commands.specs.Streams.{Prints, change, stream};
 ghost use Rattle.commands.specs.Trial.{end_line, line_of, shown_of};
 ghost use Rattle.commands.specs.Written.{Gains};
 ghost use Rattle.commands.specs.declared.stop.Stop.TheVariants.{Memory};
 
-use crate::did::{Did, Place, place_at, stopped_at};
+use crate::did::{Did, stopped_at};
 use crate::files::write_outs;
 use crate::halt::Halt;
 use crate::registers::put_state;
+use crate::stands::{Stand, stand_of};
 use crate::store::Store;
 use elf_image::Image;
 use job_file::RunParam;
@@ -133,28 +134,34 @@ impl Trial {
         print(output, shown)
     }
 
-    /// Where a run of the image stands as it ended, if that is `asked`, and memory suffices to list the word there.
-    pub fn place(&self, alloc: Global, asked: bool, image: &Image) -> Option<Place>
-        ensures place { IfSome result (λ place.
-            place_text place ≡ place_line image.now self.now.registers.pc) }
+    /// Where a run of the image stands as it ended, if that is `asked`, and memory suffices to tell it. Its last step was done at
+    /// `last`.
+    pub fn stand(
+        &self,
+        alloc: Global,
+        asked: bool,
+        image: &Image,
+        last: Option<u32>,
+    ) -> Option<Stand>
+        ensures stand { IfSome result (λ stand.
+            stand_text stand ≡ stand_line image.now last self.now.registers self.now.end) }
         ensures unasked { asked ≡ false → result ≡ None }
     {
         if asked {
-            place_at(alloc, image, self.registers.pc)
+            stand_of(alloc, image, last, &self.registers, self.end)
         } else {
             None
         }
     }
 
-    /// What was done where this was printed, of a run that stands at the place.
-    fn did(&self, place: Option<Place>) -> Did
-        ensures did { result ≡ did_of self.now.end place }
-        ensures status { status_with result ≡ status_of_end self.now.end }
+    /// What was done where this was printed, of a run that stands there.
+    fn did(&self, stand: Option<Stand>) -> Did
+        ensures { result ≡ did_of self.now.end stand }
     {
         match self.end {
             End::Ended => Did::Done,
-            End::Trapped(fault) => stopped_at(Some(fault), place),
-            End::OutOfSteps => stopped_at(None, place),
+            End::Trapped(fault) => stopped_at(Some(fault), stand),
+            End::OutOfSteps => stopped_at(None, stand),
         }
     }
 }
@@ -178,17 +185,17 @@ fn put_trap<O: Sink>(fault: Fault, steps: u64, output: &mut O) -> Result<(), Fai
     )
 }
 
-/// Writes the out files of a run by place, and then prints how it ended, and behind it these lines. The run stands at the place.
+/// Writes the out files of a run by place, and then prints how it ended, and behind it these lines. The run stands there.
 pub fn finish<'a, S: Store, O: Stream>(
     alloc: Global,
     params: &[RunParam<&'a str>; 8],
     trial: &Trial,
-    place: Option<Place>,
+    stand: Option<Stand>,
     shown: &[u8],
     store: &mut S,
     output: &mut O,
 ) -> Result<Did, Halt<'a>>
-    ensures did { IfOk result (λ did. did ≡ did_of trial.now.end place) }
+    ensures did { IfOk result (λ did. did ≡ did_of trial.now.end stand) }
     ensures told { OnOk result (Prints
         (stream (O.contents output.old) (O.failures output.old))
         (stream (O.contents output.new) (O.failures output.new))
@@ -205,7 +212,7 @@ pub fn finish<'a, S: Store, O: Stream>(
 {
     write_outs(alloc, params, &trial.args.places, store)?;
     match trial.print(shown, output) {
-        Ok(()) => Ok(trial.did(place)),
+        Ok(()) => Ok(trial.did(stand)),
         Err(_) => Err(Halt::Output),
     }
 }

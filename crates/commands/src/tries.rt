@@ -1,31 +1,35 @@
 //! `try`: a job on any image, with every test at each step.
-ghost use Rattle.std.specs.Prelude.{◌≡◌, IfErr, MatchResult, map};
+ghost use Rattle.std.specs.Prelude.{◌≡◌, IfErr, IfOk, MatchResult, map};
 ghost use Rattle.job_file.specs.Needs.{run_param_lent, try_job_lent, try_param_lent};
 ghost use Rattle.toml.specs.View.{table_view};
+ghost use Rattle.machine.specs.Start.{start};
+ghost use Rattle.sandbox_run.specs.Answer.{last_pc, steps_of};
 ghost use Rattle.vreg_groups.specs.VectorLength.{IsVlenb};
 ghost use Rattle.commands.specs.Ending.{Ends};
 ghost use Rattle.commands.specs.Files.{OfTable, StopsOfTable, files_of};
-ghost use Rattle.commands.specs.Halt.{bare};
 ghost use Rattle.commands.specs.Streams.{Wrote, change, stream};
-ghost use Rattle.commands.specs.Trial.{OrMemory};
-ghost use Rattle.commands.specs.Tries.{ExplainsTrial, StopsTry, Tries, param_for, params_for};
-ghost use Rattle.commands.specs.Tries.{passed_by, passed_size, run_of, trial_of};
+ghost use Rattle.commands.specs.Trial.{OrMemory, trial_at};
+ghost use Rattle.commands.specs.Tries.{ExplainsTrial, StopsTry, Tries, bare_tried, last_of};
+ghost use Rattle.commands.specs.Tries.{param_for, params_for, passed_by, passed_size, run_of};
+ghost use Rattle.commands.specs.Tries.{trial_of};
 ghost use Rattle.commands.specs.Why.{ExplainsOpened};
 
 use crate::did::Did;
 use crate::files::{read_args, read_image};
 use crate::halt::Halt;
+use crate::reasoned::boxed;
 use crate::starts::{on_table, taken};
 use crate::stop::Status;
 use crate::store::Store;
 use crate::trial::{End, Trial, finish, trial_at};
 use crate::why::not_started;
 use elf_image::Image;
+use explanations::parameter_reason;
 use job_file::{RunParam, TryJob, TryParam, try_job_in};
 use job_reasons::Command;
 use region_mem::{Arg, Args, Param, Parameters};
 use rv_listing::{Sink, Stream};
-use sandbox_run::{Outcome, try_run};
+use sandbox_run::{Outcome, TriedRun, try_run_with_last};
 use std::alloc::Global;
 use toml::Table;
 use vreg_groups::Vlen;
@@ -82,18 +86,25 @@ fn try_table<'a, S: Store, O: Stream>(
     let image = read_image(alloc, job.image, store)?;
     let passed = passed_params(&job.params);
     let args = read_args(alloc, &passed, store)?;
-    let trial = run_tried(alloc, &job, &image, args)?;
+    let Tried { trial, last } = run_tried(alloc, &job, &image, args)?;
     let shown = trial.shown(alloc, registers)?;
-    let place = trial.place(alloc, explain, &image);
+    let stand = trial.stand(alloc, explain, &image, last);
     finish(
         alloc,
         &passed,
         &trial,
-        place,
+        stand,
         shown.as_slice(),
         store,
         output,
     )
+}
+
+/// What comes of a run, and pc of the state before its last step, if it did one.
+#[derive(Drop)]
+struct Tried {
+    trial: Trial,
+    last: Option<u32>,
 }
 
 /// Runs a job on an image and on arguments, at the job's length of vector registers, setting and number of steps.
@@ -105,13 +116,16 @@ fn run_tried<'a>(
     job: &TryJob<&str>,
     image: &Image,
     args: Args,
-) -> Result<Trial, Halt<'a>>
+) -> Result<Tried, Halt<'a>>
     ensures answer { OrMemory (trial_of (try_job_lent job.now) image.now args.places)
-        (bare result) }
+        (bare_tried result) }
+    ensures last { IfOk result (λ tried. tried.last ≡ last_of (try_job_lent job.now)
+        image.now args.places tried.trial.steps) }
     ensures told { IfErr result (ExplainsTrial (try_job_lent job.now) args.places) }
 {
-    let Some(parameters) = Parameters::new(params_for(&job.params, &args.places)) else {
-        return Err(Halt::LargeFile);
+    let params = params_for(&job.params, &args.places);
+    let Some(parameters) = Parameters::new(params) else {
+        return Err(Halt::Parameters(boxed(alloc, parameter_reason(&params))));
     };
     match job.vlen {
         Vlen::V128 => run::<16>(alloc, job, image, &parameters, args),
@@ -164,17 +178,32 @@ fn run<'a, const VLENB: usize>(
     image: &Image,
     parameters: &Parameters,
     args: Args,
-) -> Result<Trial, Halt<'a>>
+) -> Result<Tried, Halt<'a>>
     requires { IsVlenb VLENB }
     ensures answer { OrMemory (run_of VLENB job.now.agnostic job.now.max
-        image.now args.places parameters.now) (bare result) }
+        image.now args.places parameters.now) (bare_tried result) }
+    ensures last { IfOk result (λ tried. tried.last ≡ last_pc VLENB
+        (start VLENB job.now.agnostic image.now parameters.now args.places) tried.trial.steps) }
     ensures told { IfErr result (ExplainsOpened parameters.now args.places 0 job.now.max) }
 {
-    match try_run::<VLENB>(alloc, image, parameters, args, job.agnostic, job.max) {
-        Ok(Outcome::Ended(last)) => Ok(trial_at(End::Ended, last)),
-        Ok(Outcome::Trapped(fault, last)) => Ok(trial_at(End::Trapped(fault), last)),
-        Ok(Outcome::OutOfSteps(last)) => Ok(trial_at(End::OutOfSteps, last)),
+    match try_run_with_last::<VLENB>(alloc, image, parameters, args, job.agnostic, job.max) {
+        Ok(TriedRun { outcome, last }) => Ok(Tried {
+            trial: trial_after(outcome),
+            last,
+        }),
         Err((error, args)) => Err(not_started(parameters, &args, 0, job.max, error)),
+    }
+}
+
+/// What comes of a run that stopped so.
+fn trial_after<const VLENB: usize>(outcome: Outcome<VLENB>) -> Trial
+    ensures trial { result ≡ trial_at outcome.entry }
+    ensures steps { result.steps ≡ steps_of VLENB outcome.entry }
+{
+    match outcome {
+        Outcome::Ended(last) => trial_at(End::Ended, last),
+        Outcome::Trapped(fault, last) => trial_at(End::Trapped(fault), last),
+        Outcome::OutOfSteps(last) => trial_at(End::OutOfSteps, last),
     }
 }
 

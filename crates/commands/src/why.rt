@@ -1,5 +1,5 @@
 //! Why a subcommand stops, from what it stops at. Where memory ran out, nothing more is told.
-ghost use Rattle.std.specs.Prelude.{◌≡◌, List, IfSome, Some};
+ghost use Rattle.std.specs.Prelude.{◌≡◌, IfSome, None, Some};
 ghost use Rattle.block_checker.specs.Bound.{scalar_of, scalars_of};
 ghost use Rattle.block_checker.specs.Explained.{IsStopped};
 ghost use Rattle.commands.specs.Ending.{stop_at_file, stop_of_certificate, stop_of_check};
@@ -10,7 +10,6 @@ ghost use Rattle.commands.specs.Runs.{ExplainsRun};
 ghost use Rattle.commands.specs.Why.{ExplainsAttached, ExplainsCertificate, ExplainsCheck};
 ghost use Rattle.commands.specs.Why.{ExplainsImage, ExplainsJob, ExplainsLoop, ExplainsOpened};
 ghost use Rattle.job_reasons.specs.Job.{IsJobReason};
-ghost use Rattle.region_mem.specs.declared.parameter.Param.{Param};
 
 use crate::halt::{Halt, error_of};
 use crate::reasoned::{Reasoned, boxed};
@@ -20,19 +19,25 @@ use cert_maker::MakeError;
 use cert_note::{CertError, CertRefusal};
 use check_reasons::reason_of;
 use elf_image::{ElfError, Image};
-use explanations::{Refusal, attach_reason, image_reason, refusal_reason, word_reason};
+use explanations::{Refusal, attach_reason, image_reason, loop_reason, refusal_reason};
 use job_file::JobError;
 use job_reasons::{Command, JobReason, job_reason};
 use open_reasons::open_reason;
-use region_mem::{Arg, Args, Parameters};
+use region_mem::{Arg, Args, Param, Parameters};
 use sandbox_run::OpenError;
 use std::alloc::Global;
 use std::io::ErrorKind;
 use vreg_groups::Vlen;
 
-/// The line of what the system says, if it says anything, where memory suffices.
-fn said(alloc: Global, says: Option<ErrorKind>) -> Option<String> {
+/// The line of what the system says, if it says anything, where memory suffices. An error without a
+/// category says nothing.
+fn said(alloc: Global, says: Option<ErrorKind>) -> Option<String>
+    ensures { says ≡ Some ErrorKind.Uncategorized → result ≡ None }
+{
     let kind = says?;
+    if kind == ErrorKind::Uncategorized {
+        return None;
+    }
     let line = format!(in alloc; "  the system says: {kind}\n");
     line.ok()
 }
@@ -148,16 +153,15 @@ pub fn bad_job<'a>(alloc: Global, text: &[u8], command: Command, error: JobError
     }
 }
 
-/// No certificate is made of an image.
-pub fn not_made<'a>(alloc: Global, image: &Image, error: MakeError) -> Halt<'a>
+/// No certificate is made of an image for these parameters.
+pub fn not_made<'a>(alloc: Global, image: &Image, params: &[Param; 8], error: MakeError) -> Halt<'a>
     ensures stop { stop_of result ≡ stop_of_make error }
-    // Whatever the parameters are.
-    ensures told { (params : List Param) → ExplainsLoop params image.now result }
+    ensures told { ExplainsLoop params.now image.now result }
 {
     match error {
         MakeError::NoMemory => Halt::Memory,
         MakeError::NotALoopOfTheClass(pc) => {
-            let reason = word_reason(alloc, image, pc).ok();
+            let reason = loop_reason(alloc, image, params, pc).ok();
             Halt::Make(Reasoned::maybe(alloc, error, reason))
         }
     }

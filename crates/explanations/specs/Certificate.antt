@@ -1,13 +1,14 @@
 -- Why bytes are no certificate: where reading stopped, and in which words it is told.
-use Rattle.std.specs.Prelude.{◌≡◌, ◌≢◌, ◌⊎◌, ℕ, ◌++◌, ◌-◌, ◌==◌, if◌then◌else◌, List, [], length, codes, Option, Some, None, Err}
+use Rattle.std.specs.Prelude.{◌≡◌, ◌≢◌, ◌⊎◌, ℕ, ◌++◌, ◌-◌, List, [], ◌∷◌, length, take, drop, codes, Option, Some, None, Err}
 use Rattle.std.specs.Fmt.{decimal}
-use Rattle.std.specs.List.{slice_get}
 use Rattle.cert_note.specs.Reading.{certificate_of, IsFaultBlock, IsFaultPlace}
 use Rattle.cert_note.specs.declared.refusals.CertError.{CertError}
 use Rattle.cert_note.specs.declared.refusals.CertError.TheVariants as error
 use Rattle.cert_note.specs.declared.refusals.CertRefusal.{CertRefusal}
 use Rattle.explanations.specs.Address.{byte_text}
 use Rattle.explanations.specs.declared.certificate.CertificateReason.{CertificateReason}
+use Rattle.explanations.specs.declared.certificate.LastBytes.{LastBytes}
+use Rattle.explanations.specs.declared.certificate.LastBytes.TheVariants as last
 
 -- reading these bytes tells this error
 abbrev pub IsTold : List ℕ → CertError → Type 0
@@ -24,10 +25,22 @@ IsOfBytes e = e ≢ error.NoMemory
 abbrev pub IsPlace : List ℕ → CertError → ℕ → Type 0
 IsPlace = IsFaultPlace
 
--- the byte in front of a place; none where there is no place, or nothing in front of it
-abbrev pub last_byte : List ℕ → Option ℕ → Option ℕ
-last_byte bytes None = None
-last_byte bytes (Some place) = if place == 0 then None else slice_get bytes (place - 1)
+-- bytes as they are kept: the first four at most
+abbrev pub bytes_told : List ℕ → LastBytes
+bytes_told [] = last.None
+bytes_told (a ∷ []) = last.One a
+bytes_told (a ∷ b ∷ []) = last.Two a b
+bytes_told (a ∷ b ∷ c ∷ []) = last.Three a b c
+bytes_told (a ∷ b ∷ c ∷ d ∷ more) = last.Four a b c d
+
+-- the last four of them at most
+abbrev pub last_four : List ℕ → List ℕ
+last_four bytes = drop (length bytes - 4) bytes
+
+-- the last of the bytes in front of a place; none where there is no place
+abbrev pub last_bytes : List ℕ → Option ℕ → LastBytes
+last_bytes bytes None = last.None
+last_bytes bytes (Some place) = bytes_told (last_four (take place bytes))
 
 abbrev pub IfFound : (ℕ → Type 0) → Type 0 → Option ℕ → Type 0
 IfFound Found NotFound None = NotFound
@@ -41,7 +54,7 @@ pub record IsReason (bytes : List ℕ) (e : CertError) (told : CertificateReason
   pub fault : told.error ≡ e
   pub size : told.size ≡ length bytes
   pub place : (e ≡ error.NoMemory) ⊎ (IsPlaced bytes e told)
-  pub last : told.last ≡ last_byte bytes told.place
+  pub last : told.last ≡ last_bytes bytes told.place
   pub block : IsTold bytes e → IsFaultBlock bytes told.block
   pub untold : IsUntold bytes e → told.block ≡ None
 
@@ -51,7 +64,7 @@ reason_of bytes refusal = record {
   error = refusal.error;
   size = length bytes;
   place = refusal.place;
-  last = last_byte bytes refusal.place;
+  last = last_bytes bytes refusal.place;
   block = refusal.block;
 }
 
@@ -85,9 +98,17 @@ place_line None size = []
 place_line (Some place) size = codes "  reading stopped behind byte "
     ++ (decimal place ++ (codes " of " ++ (decimal size ++ codes "\n")))
 
-abbrev pub last_line : Option ℕ → List ℕ
-last_line None = []
-last_line (Some byte) = codes "  the last byte read: 0x" ++ (byte_text byte ++ codes "\n")
+-- the last bytes that were read, in the file's order
+abbrev pub last_line : LastBytes → List ℕ
+last_line last.None = []
+last_line (last.One a) = codes "  the last byte read: 0x" ++ (byte_text a ++ codes "\n")
+last_line (last.Two a b) = codes "  the last bytes read: 0x" ++ (byte_text a
+    ++ (codes " 0x" ++ (byte_text b ++ codes "\n")))
+last_line (last.Three a b c) = codes "  the last bytes read: 0x" ++ (byte_text a
+    ++ (codes " 0x" ++ (byte_text b ++ (codes " 0x" ++ (byte_text c ++ codes "\n")))))
+last_line (last.Four a b c d) = codes "  the last bytes read: 0x" ++ (byte_text a
+    ++ (codes " 0x" ++ (byte_text b ++ (codes " 0x" ++ (byte_text c
+    ++ (codes " 0x" ++ (byte_text d ++ codes "\n")))))))
 
 abbrev pub block_line : Option ℕ → List ℕ
 block_line None = []

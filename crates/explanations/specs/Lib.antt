@@ -4,4 +4,5 @@ pub mod Image
 pub mod Certificate
 pub mod Words
 pub mod Make
+pub mod Loops
 pub mod Refusal

@@ -110,11 +110,17 @@ room_wanted = codes "  wanted: at most " ++ (decimal (MAX_PROGRAM_HEADERS - 1)
     ++ (codes ", and at most " ++ (decimal MAX_FILE_SIZE
     ++ codes " bytes with one more and the certificate\n")))
 
-abbrev pub high_line : ℕ → List ℕ
-high_line hi = codes "  wanted: at most its hi, " ++ (decimal hi ++ codes "\n")
+-- a scalar that no number is: the number lo, and that it is above hi
+abbrev pub empty_lines : ℕ → ℕ → ℕ → List ℕ
+empty_lines place lo hi = codes "  lo of the param at place "
+    ++ (decimal place ++ (codes ": " ++ (decimal lo ++ (codes "\n  wanted: at most its hi, "
+    ++ (decimal hi ++ codes "\n")))))
 
-abbrev pub size_wanted : List ℕ
-size_wanted = codes "  wanted: at most " ++ (decimal MAX_BUFFER_SIZE ++ codes "\n")
+-- a buffer that is too large
+abbrev pub large_buffer_lines : ℕ → ℕ → List ℕ
+large_buffer_lines place size = codes "  size of the param at place "
+    ++ (decimal place ++ (codes ": " ++ (decimal size ++ (codes "\n  wanted: at most "
+    ++ (decimal MAX_BUFFER_SIZE ++ codes "\n")))))
 
 abbrev pub bare_wanted : List ℕ
 bare_wanted = codes "  wanted: an image with no certificate\n"
@@ -130,10 +136,8 @@ make_text reason.Untold = []
 make_text (reason.NoWord pc wanted) = word_line pc None ++ row_wanted wanted
 make_text (reason.Word pc word listing wanted) =
     word_line pc (Some word) ++ (listing_line (Some listing) ++ row_wanted wanted)
-make_text (reason.Empty place lo hi) = codes "  lo of the param at place "
-    ++ (decimal place ++ (codes ": " ++ (decimal lo ++ (codes "\n" ++ high_line hi))))
-make_text (reason.LargeBuffer place size) = codes "  size of the param at place "
-    ++ (decimal place ++ (codes ": " ++ (decimal size ++ (codes "\n" ++ size_wanted))))
+make_text (reason.Empty place lo hi) = empty_lines place lo hi
+make_text (reason.LargeBuffer place size) = large_buffer_lines place size
 make_text (reason.Certified size) = codes "  there: a certificate of "
     ++ (decimal size ++ (codes " bytes\n" ++ bare_wanted))
 make_text (reason.LargeFile size headers certificate) = size_lines size certificate

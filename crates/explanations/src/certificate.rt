@@ -1,12 +1,31 @@
 //! Why bytes are no certificate: where reading stopped, and what is wanted there.
 ghost use Rattle.std.specs.Prelude.{◌≡◌, IfOk};
 ghost use Rattle.cert_note.specs.Reading.{IsRefusal};
-ghost use Rattle.explanations.specs.Certificate.{IsReason, last_byte, reason_of, wanted};
+ghost use Rattle.explanations.specs.Certificate.{IsReason, bytes_told, last_bytes, reason_of};
+ghost use Rattle.explanations.specs.Certificate.{wanted};
 
 use crate::address::Byte;
 use cert_note::{CertError, CertRefusal};
 use std::alloc::{AllocError, Allocator};
 use std::fmt;
+
+/// How many of the bytes that were read are told at most.
+const MOST_TOLD: usize = 4;
+
+/// The last bytes that were read, in the file's order. At most four are kept. They are told as a line.
+#[derive(Clone, Copy, PartialEq, Eq)]
+pub enum LastBytes {
+    /// There is none.
+    None,
+    /// One alone was read.
+    One(u8),
+    /// Two were read.
+    Two(u8, u8),
+    /// Three were read.
+    Three(u8, u8, u8),
+    /// Four or more were read.
+    Four(u8, u8, u8, u8),
+}
 
 /// Why bytes are no certificate, and where reading them stopped.
 #[derive(Clone, Copy, PartialEq, Eq)]
@@ -18,22 +37,36 @@ pub struct CertificateReason {
     /// How many bytes were read when the error was told: the field in question ends there. `None` where the bytes do
     /// not tell this error.
     pub place: Option<usize>,
-    /// The last byte that was read: the one in front of that place. `None` where none was read, and where the bytes do not
+    /// The last bytes that were read: those in front of that place. `None` where none was read, and where the bytes do not
     /// tell this error.
-    pub last: Option<u8>,
+    pub last: LastBytes,
     /// The number of the block there, from 0 on. `None` where it is no block, and where the bytes do not tell this error.
     pub block: Option<u16>,
 }
 
-/// The last byte that was read, of those in front of a place.
-fn last_byte(bytes: &[u8], place: Option<usize>) -> Option<u8>
-    ensures { result ≡ last_byte bytes.now place }
+/// Bytes as they are kept: the first four at most.
+fn bytes_told(bytes: &[u8]) -> LastBytes
+    ensures { result ≡ bytes_told bytes.now }
 {
-    let read = place?;
-    if read == 0 {
-        return None;
+    match bytes {
+        [] => LastBytes::None,
+        [first] => LastBytes::One(*first),
+        [first, second] => LastBytes::Two(*first, *second),
+        [first, second, third] => LastBytes::Three(*first, *second, *third),
+        [first, second, third, fourth, ..] => LastBytes::Four(*first, *second, *third, *fourth),
     }
-    bytes.get(read - 1).copied()
+}
+
+/// The last bytes that were read, of those in front of a place.
+#[tactic(auto, using(std::proofs::lemmas::List::take_min))]
+fn last_bytes(bytes: &[u8], place: Option<usize>) -> LastBytes
+    ensures { result ≡ last_bytes bytes.now place }
+{
+    let Some(place) = place else {
+        return LastBytes::None;
+    };
+    let read = &bytes[..place.min(bytes.len())];
+    bytes_told(&read[read.len().saturating_sub(MOST_TOLD)..])
 }
 
 /// Why bytes are no certificate, by the evidence that was kept when they were read.
@@ -45,7 +78,7 @@ pub fn refusal_reason(bytes: &[u8], refusal: CertRefusal) -> CertificateReason
         error: refusal.error,
         size: bytes.len(),
         place: refusal.place,
-        last: last_byte(bytes, refusal.place),
+        last: last_bytes(bytes, refusal.place),
         block: refusal.block,
     }
 }
@@ -71,7 +104,7 @@ pub fn certificate_reason<A: Allocator + Copy>(
         error,
         size: bytes.len(),
         place: None,
-        last: None,
+        last: LastBytes::None,
         block: None,
     })
 }
@@ -129,20 +162,32 @@ impl fmt::Display for PlaceLine {
     }
 }
 
-/// The last byte that was read, as a line.
-#[derive(Clone, Copy)]
-struct LastLine(Option<u8>);
-
-impl fmt::Display for LastLine {
+impl fmt::Display for LastBytes {
     ghost use Rattle.std.specs.Prelude.{Some};
     ghost use Rattle.explanations.specs.Certificate.{last_line};
 
-    ghost output = { λ line. Some (last_line line.0) };
+    ghost output = { λ last. Some (last_line last) };
 
     fn fmt<W: fmt::Write>(&self, f: &mut fmt::Formatter<W>) -> fmt::Result {
-        match self.0 {
-            Some(byte) => writeln!(f, "  the last byte read: 0x{}", Byte(byte)),
-            None => Ok(()),
+        match *self {
+            LastBytes::None => Ok(()),
+            LastBytes::One(first) => writeln!(f, "  the last byte read: 0x{}", Byte(first)),
+            LastBytes::Two(first, second) => {
+                let (first, second) = (Byte(first), Byte(second));
+                writeln!(f, "  the last bytes read: 0x{first} 0x{second}")
+            }
+            LastBytes::Three(first, second, third) => {
+                let (first, second, third) = (Byte(first), Byte(second), Byte(third));
+                writeln!(f, "  the last bytes read: 0x{first} 0x{second} 0x{third}")
+            }
+            LastBytes::Four(first, second, third, fourth) => {
+                let (first, second) = (Byte(first), Byte(second));
+                let (third, fourth) = (Byte(third), Byte(fourth));
+                writeln!(
+                    f,
+                    "  the last bytes read: 0x{first} 0x{second} 0x{third} 0x{fourth}"
+                )
+            }
         }
     }
 }
@@ -176,7 +221,7 @@ impl fmt::Display for CertificateReason {
             place: self.place,
             size: self.size,
         };
-        let last = LastLine(self.last);
+        let last = self.last;
         let block = BlockLine(self.block);
         let wanted = wanted(self.error);
         write!(f, "{place}{last}{block}{wanted}")

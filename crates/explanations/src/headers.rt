@@ -208,12 +208,21 @@ impl fmt::Display for Header {
     }
 }
 
+/// The bit of `p_flags` that lets a segment be executed.
+const PF_X: u32 = 1;
+
+/// The one that lets it be written.
+const PF_W: u32 = 2;
+
+/// The one that lets it be read.
+const PF_R: u32 = 4;
+
 /// What may be done in a segment.
 fn rights(header: ProgramHeader) -> &'static str
     ensures { result.now ≡ rights_text header }
 {
     let flags = header.p_flags;
-    match (flags & 4 != 0, flags & 2 != 0, flags & 1 != 0) {
+    match (flags & PF_R != 0, flags & PF_W != 0, flags & PF_X != 0) {
         (true, true, true) => "read, write, execute",
         (true, true, false) => "read, write",
         (true, false, true) => "read, execute",

@@ -321,13 +321,19 @@ impl fmt::Display for ElfField {
     }
 }
 
+/// The bit of `e_flags` of compressed code.
+const EF_RISCV_RVC: u32 = 1;
+
+/// Its bits of a floating-point ABI.
+const EF_RISCV_FLOAT_ABI: u32 = 6;
+
 /// What is wanted of `e_flags`, and the remedy.
 fn flags_wanted(value: u32) -> &'static str
     ensures { result.now ≡ flags_wanted value }
 {
-    if value & 1 != 0 {
+    if value & EF_RISCV_RVC != 0 {
         "  wanted: no compressed code\n  remedy: compile with -march=rv32im_zve32x\n"
-    } else if value & 6 != 0 {
+    } else if value & EF_RISCV_FLOAT_ABI != 0 {
         "  wanted: no floating-point ABI\n  remedy: compile with -mabi=ilp32\n"
     } else {
         "  wanted: no RV32E\n  remedy: compile with -march=rv32im_zve32x -mabi=ilp32\n"

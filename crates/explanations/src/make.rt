@@ -211,34 +211,41 @@ impl fmt::Display for RoomWanted {
     }
 }
 
-/// What is wanted of a `lo`, as a line.
+/// A scalar whose `lo` is above its `hi`, in lines.
 #[derive(Clone, Copy)]
-struct HighLine(u32);
+struct EmptyLines(usize, u32, u32);
 
-impl fmt::Display for HighLine {
+impl fmt::Display for EmptyLines {
     ghost use Rattle.std.specs.Prelude.{Some};
-    ghost use Rattle.explanations.specs.Make.{high_line};
+    ghost use Rattle.explanations.specs.Make.{empty_lines};
 
-    ghost output = { λ line. Some (high_line line.0) };
+    ghost output = { λ lines. Some (empty_lines lines.0 lines.1 lines.2) };
 
     fn fmt<W: fmt::Write>(&self, f: &mut fmt::Formatter<W>) -> fmt::Result {
-        let hi = self.0;
-        writeln!(f, "  wanted: at most its hi, {hi}")
+        let EmptyLines(place, lo, hi) = *self;
+        write!(
+            f,
+            "  lo of the param at place {place}: {lo}\n  wanted: at most its hi, {hi}\n"
+        )
     }
 }
 
-/// What is wanted of the size of a buffer.
+/// A buffer that is too large, in lines.
 #[derive(Clone, Copy)]
-struct SizeWanted;
+struct LargeBufferLines(usize, u32);
 
-impl fmt::Display for SizeWanted {
+impl fmt::Display for LargeBufferLines {
     ghost use Rattle.std.specs.Prelude.{Some};
-    ghost use Rattle.explanations.specs.Make.{size_wanted};
+    ghost use Rattle.explanations.specs.Make.{large_buffer_lines};
 
-    ghost output = { λ _wanted. Some size_wanted };
+    ghost output = { λ lines. Some (large_buffer_lines lines.0 lines.1) };
 
     fn fmt<W: fmt::Write>(&self, f: &mut fmt::Formatter<W>) -> fmt::Result {
-        writeln!(f, "  wanted: at most {MAX_BUFFER_SIZE}")
+        let LargeBufferLines(place, size) = *self;
+        write!(
+            f,
+            "  size of the param at place {place}: {size}\n  wanted: at most {MAX_BUFFER_SIZE}\n"
+        )
     }
 }
 
@@ -292,13 +299,9 @@ impl fmt::Display for MakeReason {
                 let wanted = row_wanted(*row);
                 write!(f, "{line}  that is {listing}\n{wanted}")
             }
-            MakeReason::Empty { place, lo, hi } => {
-                let wanted = HighLine(*hi);
-                write!(f, "  lo of the param at place {place}: {lo}\n{wanted}")
-            }
+            MakeReason::Empty { place, lo, hi } => write!(f, "{}", EmptyLines(*place, *lo, *hi)),
             MakeReason::LargeBuffer { place, size } => {
-                let wanted = SizeWanted;
-                write!(f, "  size of the param at place {place}: {size}\n{wanted}")
+                write!(f, "{}", LargeBufferLines(*place, *size))
             }
             MakeReason::Certified(size) => {
                 let wanted = bare_wanted();

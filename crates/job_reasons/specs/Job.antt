@@ -1,5 +1,5 @@
 -- Why a job is refused, and in which words it is told.
-use Rattle.std.specs.Prelude.{◌≡◌, ◌<◌, ◌≤◌, ℕ, ◌+◌, ◌++◌, ◌==◌, nat_lt, nat_le, ◌||◌, if◌then◌else◌, Bool, true, false, List, codes, length, filter, fold, take, Option, Some, None, is_some, Err, String, string_bytes}
+use Rattle.std.specs.Prelude.{◌≡◌, ◌<◌, ◌≤◌, ℕ, ◌+◌, ◌++◌, ◌==◌, nat_lt, nat_le, ◌||◌, if◌then◌else◌, Bool, true, false, List, [], codes, length, filter, fold, take, Option, Some, None, is_some, Err, String, string_bytes}
 use Rattle.std.specs.Fmt.{decimal}
 use Rattle.std.specs.Global.{Global}
 use Rattle.std.specs.Prelude.{slice_index_or}
@@ -117,7 +117,7 @@ IsTableReason c ms (Some (reason.Missing t k d)) =
 IsTableReason c ms (Some (reason.Breach b)) =
     (is_taken c ms ≡ false) × (kept_job_of ms ≡ Err (breach_kept b))
 IsTableReason c ms (Some (reason.NotUtf8 byte)) = ⊥
-IsTableReason c ms (Some (reason.NotToml line column byte)) = ⊥
+IsTableReason c ms (Some (reason.NotToml line column byte cause)) = ⊥
 
 abbrev pub lines_in : List ℕ → ℕ
 lines_in bytes = length (filter (λ byte. byte == 10) bytes)
@@ -145,11 +145,11 @@ IfTable True None = ⊥
 IfTable True (Some ms) = True ms
 
 -- What is told of a job's text: where it is no UTF-8, where it is no TOML, or what is told of its
--- table.
+-- table. The cause is free, since the library states nothing of its words.
 abbrev pub IsJobReason : Command → List ℕ → Option JobReason → Type 0
 IsJobReason c text (Some (reason.NotUtf8 byte)) =
     (byte ≡ utf8_valid_len text) × (¬ (IsUtf8 text))
-IsJobReason c text (Some (reason.NotToml line column byte)) = (parse_document text ≡ None)
+IsJobReason c text (Some (reason.NotToml line column byte cause)) = (parse_document text ≡ None)
     × (line ≡ line_behind (take byte text)) × (column ≡ column_behind (take byte text))
     × (byte ≤ length text)
 IsJobReason c text (Some reason.Broken) =
@@ -179,12 +179,17 @@ kept_text (breach.NoTable t) = no_table_text t
 kept_text (breach.NoKind t) = no_kind_text t
 kept_text breach.TooMany = too_many_text
 
+-- the line of a cause, where there is one; its words are the library's
+abbrev pub cause_text : Option (String Global) → List ℕ
+cause_text None = []
+cause_text (Some cause) = codes "  cause: " ++ (escaped_text (string_bytes cause) ++ codes "\n")
+
 -- the lines of a reason
 abbrev pub job_text : JobReason → List ℕ
 job_text (reason.NotUtf8 byte) = codes "  not UTF-8 from byte " ++ (decimal byte ++ codes " on\n")
-job_text (reason.NotToml line column byte) = codes "  not TOML from byte " ++ (decimal byte
+job_text (reason.NotToml line column byte cause) = codes "  not TOML from byte " ++ (decimal byte
     ++ (codes " on: line " ++ (decimal line
-    ++ (codes ", column " ++ (decimal column ++ codes "\n")))))
+    ++ (codes ", column " ++ (decimal column ++ (codes "\n" ++ cause_text cause))))))
 job_text reason.Broken =
     codes "  wanted: no other keys, and each value of its type and range\n"
 job_text (reason.Missing t k c) =

@@ -1,13 +1,14 @@
 //! Why a job is refused: where its text is no TOML, or which key the command lacks.
 ghost use Rattle.std.specs.Prelude.{◌≡◌, ◌<◌, ◌≤◌, ◌+◌, ◌^◌, IfOk, IfSome, Some};
 ghost use Rattle.std.specs.Prelude.{IfNone, length, map, take};
+ghost use Rattle.std.specs.Fmt.{WritesOnOk};
 ghost use Rattle.job_file.specs.Job.{breach_lent, job_lent, param_lent};
 ghost use Rattle.toml.specs.View.{table_view};
 ghost use Rattle.job_reasons.specs.Job.{IsJobReason, IsTableReason, LackNone, breach_kept};
 ghost use Rattle.job_reasons.specs.Job.{is_taken, job_lacks, lacked_of, make_lacks, param_lacks};
 ghost use Rattle.job_reasons.specs.Job.{place_lacks, run_lacks, try_lacks};
 ghost use Rattle.job_reasons.specs.Job.{begins_character, column_behind, line_behind, lines_in};
-ghost use Rattle.job_reasons.specs.Job.{next_column as next_column_of};
+ghost use Rattle.job_reasons.specs.Job.{cause_text, next_column as next_column_of};
 ghost use Rattle.job_reasons.specs.declared.job.JobReason.TheVariants as reason;
 
 use crate::escaped::Escaped;
@@ -31,11 +32,12 @@ pub enum JobReason {
     /// The text is not UTF-8 from this byte on, counted from 0.
     NotUtf8(usize),
     /// The text is not TOML from this byte on, counted from 0, which stands in this line, at this character, both counted
-    /// from 1.
+    /// from 1. The cause is told in the library's words, where there was memory to keep it.
     NotToml {
         line: usize,
         column: usize,
         byte: usize,
+        cause: Option<String>,
     },
     /// The command does not take the job.
     Broken,
@@ -269,17 +271,18 @@ fn column_behind(bytes: &[u8]) -> usize
     column
 }
 
-/// Where a text is not TOML.
-fn told_place(text: &str, byte: usize) -> JobReason
+/// Where a text is not TOML, and why.
+fn told_place(text: &str, byte: usize, cause: Option<String>) -> JobReason
     requires { byte ≤ length text.now }
     ensures { result ≡ reason.NotToml (line_behind (take byte text.now))
-        (column_behind (take byte text.now)) byte }
+        (column_behind (take byte text.now)) byte cause }
 {
     let before = &text.as_bytes()[..byte];
     JobReason::NotToml {
         line: line_behind(before),
         column: column_behind(before),
         byte,
+        cause,
     }
 }
 
@@ -302,7 +305,10 @@ pub fn job_reason(
         Ok(table) => table_reason(alloc, command, &table),
         Err(error) => match error.span() {
             None => Err(AllocError),
-            Some(span) => Ok(Some(told_place(text, span.start))),
+            Some(span) => {
+                let cause = String::from_str(alloc, error.message()).ok();
+                Ok(Some(told_place(text, span.start, cause)))
+            }
         },
     }
 }
@@ -323,6 +329,19 @@ impl fmt::Display for Command {
     }
 }
 
+/// Writes the line of a cause, where there is one.
+fn write_cause<W: fmt::Write>(cause: &Option<String>, f: &mut fmt::Formatter<W>) -> fmt::Result
+    ensures { WritesOnOk W.write_str_gives f.old result (cause_text cause.now) f.new }
+{
+    match cause {
+        Some(cause) => {
+            let cause = Escaped(cause.as_str());
+            writeln!(f, "  cause: {cause}")
+        }
+        None => Ok(()),
+    }
+}
+
 impl fmt::Display for JobReason {
     ghost use Rattle.std.specs.Prelude.{Some};
     ghost use Rattle.job_reasons.specs.Job.{job_text};
@@ -332,11 +351,17 @@ impl fmt::Display for JobReason {
     fn fmt<W: fmt::Write>(&self, f: &mut fmt::Formatter<W>) -> fmt::Result {
         match self {
             JobReason::NotUtf8(byte) => writeln!(f, "  not UTF-8 from byte {byte} on"),
-            JobReason::NotToml { line, column, byte } => {
+            JobReason::NotToml {
+                line,
+                column,
+                byte,
+                cause,
+            } => {
                 writeln!(
                     f,
                     "  not TOML from byte {byte} on: line {line}, column {column}"
-                )
+                )?;
+                write_cause(cause, f)
             }
             JobReason::Broken => {
                 writeln!(
@@ -349,8 +374,7 @@ impl fmt::Display for JobReason {
                 key,
                 command,
             } => {
-                let name = key.name();
-                let wanted = key.wanted();
+                let (name, wanted) = (key.name(), key.wanted());
                 write!(f, "  {command} needs {name}")?;
                 writeln!(f, " in {table}: {wanted}")
             }

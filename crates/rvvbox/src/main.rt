@@ -5,6 +5,8 @@
 //! `run` takes. Each prints what came of it.
 #![tactic(auto)]
 
+ghost use Rattle.std.specs.Prelude.{◌≡◌};
+
 use command_line::{Ended, end_without_words, perform};
 use commands::{Counted, Disk, Over};
 use std::alloc::Global;
@@ -26,7 +28,9 @@ struct Prompting<R, E> {
 
 impl<R, E: Write> Prompting<R, E> {
     /// Asks for a line, after the commands where it is the first. What standard error does not take changes nothing.
-    fn ask(&mut self) {
+    fn ask(&mut self)
+        ensures { self.new.reader ≡ self.old.reader }
+    {
         if !self.begun {
             self.begun = true;
             let _told = self.errors.write_all(COMMANDS.as_bytes());
@@ -37,6 +41,8 @@ impl<R, E: Write> Prompting<R, E> {
 }
 
 impl<R: Read, E: Write> Read for Prompting<R, E> {
+    ghost remaining = { λ p. R.remaining p.reader };
+
     fn read(&mut self, buf: &mut [u8]) -> io::Result<usize> {
         if self.asks {
             self.ask();

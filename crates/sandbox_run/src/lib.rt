@@ -17,6 +17,6 @@ pub use laws::{
     sessions_are_runs, starts_are_alike, steps_are_unique, tries_are_runs,
 };
 pub use machine::{Registers, Spare};
-pub use outcome::{Final, OpenError, Outcome};
-pub use run::{outcome_is_first, runs_go_on, try_run, try_run_in};
+pub use outcome::{Final, OpenError, Outcome, TriedRun};
+pub use run::{outcome_is_first, runs_go_on, try_run, try_run_in, try_run_with_last};
 pub use session::{Session, open_in, open_in_with};

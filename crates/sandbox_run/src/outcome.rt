@@ -33,6 +33,15 @@ pub enum Outcome<const VLENB: usize, B = Bytes> {
     OutOfSteps(Final<VLENB, B>),
 }
 
+/// How a run stopped, and from where its last step was done.
+#[derive(Drop)]
+pub struct TriedRun<const VLENB: usize, B = Bytes> {
+    /// How the run stopped, and its last state.
+    pub outcome: Outcome<VLENB, B>,
+    /// pc of the state before the last step that was done. `None` where no step was done.
+    pub last: Option<u32>,
+}
+
 /// Why a run was not started.
 #[derive(Clone, Copy, Debug, PartialEq, Eq)]
 pub enum OpenError {

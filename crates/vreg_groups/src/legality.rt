@@ -165,9 +165,11 @@ fn is_plain_access(vtype: &Vtype, access: &VMem) -> bool
     }
 }
 
+/// Tells whether operands are legal under a vector type, `None` with vill set: each by itself, and then the destination beside
+/// the sources and the mask, by the rules of [`legal`].
 #[inline(never)]
 #[tactic(auto, unfolding(crate::specs::Legality::are_operands_legal))]
-pub(crate) fn are_operands_legal(vtype: Option<Vtype>, operands: &Operands) -> bool
+pub fn are_operands_legal(vtype: Option<Vtype>, operands: &Operands) -> bool
     ensures meaning { result ≡ are_operands_legal vtype operands.now }
     ensures inside { result ≡ true → AreAllInside (type_in vtype) operands.now }
 {

@@ -18,7 +18,7 @@ mod vector_type;
 pub use chunks::{choose, written_lanes};
 pub use elements::Element;
 pub use group::Group;
-pub use legality::{legal, legal_access_type, legal_type, whole_count};
+pub use legality::{are_operands_legal, legal, legal_access_type, legal_type, whole_count};
 pub use policies::{Agnostic, Policy};
 pub use registers::VregFile;
 pub use setup::Setup;

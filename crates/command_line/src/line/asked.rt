@@ -70,7 +70,7 @@ impl LineError {
         ensures answered { is_request self.now ≡ true → (result ≡ Status.Done)
             ⊎ (((result ≡ Status.File) × IsCounted (O.failures output.old) (O.failures output.new))
             ⊎ (result ≡ Status.Memory)) }
-        ensures quiet { self.now ≡ NoMemory →
+        ensures quiet { is_request self.now ≡ false →
             stream (O.contents output.new) (O.failures output.new)
             ≡ stream (O.contents output.old) (O.failures output.old) }
         ensures memory { self.now ≡ NoMemory →

@@ -27,7 +27,7 @@ fn tells_a_place_in_a_certificate(rt: HostRuntime) {
     let bytes = changed(rt, rt.alloc(), SUM.certificate, 169, 0);
     let reason = given!(rt; certificate_reason(rt.alloc(), &bytes, CertError::BlockOrder));
     let expected = "  reading stopped behind byte 171 of 261
-  the last byte read: 0x00
+  the last bytes read: 0x04 0x00 0x00 0x00
   in block 1, counted from 0
   wanted: a multiple of 4 above the start of the block before
 ";

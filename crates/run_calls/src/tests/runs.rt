@@ -2,9 +2,9 @@
 //! the rows of `runs.txt`.
 use crate::tests::assertions::{assert_same, found, given, opaque};
 use crate::tests::kernels::image_of;
-use region_mem::{Arg, Args, Bytes, Mode, Param, Parameters};
+use region_mem::{Arg, Args, Bytes, Fault, Mode, Param, Parameters};
 use sample_kernels::ADD_BYTES;
-use sandbox_run::{OpenError, try_run};
+use sandbox_run::{OpenError, Outcome, try_run, try_run_with_last};
 use std::alloc::Global;
 use std::process::Abort;
 use vreg_groups::Agnostic;
@@ -82,6 +82,34 @@ fn hands_arguments_back(rt: HostRuntime) {
         assert_same!(rt; is_buffer(&args.places[0], first), true);
         assert_same!(rt; is_buffer(&args.places[1], &[1, 2, 3]), true);
         assert_same!(rt; matches!(args.places[2], Arg::Scalar(came) if came == number), true);
+    }
+}
+
+/// addi x0,x0,0; jalr x0,0(x0), which leads to where no code is.
+const JUMP_TO_ZERO: &str = "00000013 00000067";
+
+/// No step, one, and the jump, behind which the run traps.
+#[test]
+fn tells_where_the_last_step_was(rt: HostRuntime) {
+    let alloc = rt.alloc();
+    let image = image_of(rt, alloc, JUMP_TO_ZERO);
+    let parameters = found!(rt; byte_parameters());
+    for (max, last, fault) in [
+        (0, None, None),
+        (1, Some(0x10000), None),
+        (9, Some(0x10004), Some(Fault::FetchFault(0))),
+    ] {
+        let args = args(rt, alloc, &[7, 8, 9], &[1, 2, 3], 3);
+        let ran = try_run_with_last::<16>(alloc, &image, &parameters, args, Agnostic::Keep, max);
+        let Ok(tried) = opaque(ran) else {
+            panic!(rt; "it does not run");
+        };
+        assert_same!(rt; tried.last, last);
+        let met = match tried.outcome {
+            Outcome::Trapped(fault, _) => Some(fault),
+            Outcome::Ended(_) | Outcome::OutOfSteps(_) => None,
+        };
+        assert_same!(rt; met, fault);
     }
 }
 

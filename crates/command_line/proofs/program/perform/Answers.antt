@@ -1,8 +1,9 @@
-use Rattle.std.proofs.Common.{map, refl}
+use Rattle.std.proofs.Common.{ap, map, refl}
 use Rattle.clap.specs.Words.{fault_of}
+use Rattle.command_line.specs.Asked.{is_request}
 use Rattle.command_line.specs.Line.{app}
 use Rattle.commands.specs.Files.{files_of}
-use Rattle.command_line.proofs.ProgramLemmas.{asked_for, asked_nothing, fits_any, told_for, touched, untouched}
+use Rattle.command_line.proofs.ProgramLemmas.{asked_for, asked_nothing, fits_any, silent_any, silent_for, told_for, touched, untouched}
 use Rattle.command_line.proofs.program.perform.Goals as goal
 
 pub returns-in-Err-clause-status : goal.returns-in-Err-clause-status
@@ -11,7 +12,7 @@ returns-in-Err-clause-status g c =
 
 pub returns-in-Err-clause-asked : goal.returns-in-Err-clause-asked
 returns-in-Err-clause-asked g c =
-    asked_nothing _ (map (λ w. w.now) c.args.words.now) c.in-Err.error _ _ _ _ _ c.tell.result refl refl c.in-Err.ensures.refused c.tell.ensures.told c.tell.ensures.quiet c.tell.ensures.memory
+    asked_nothing _ (map (λ w. w.now) c.args.words.now) c.in-Err.error _ _ _ _ _ c.tell.result refl refl c.in-Err.ensures.refused c.tell.ensures.told (λ is. c.tell.ensures.quiet (ap is_request is)) c.tell.ensures.memory
 
 pub returns-in-Ok-clause-status : goal.returns-in-Ok-clause-status
 returns-in-Ok-clause-status g c = fits_any (map (λ w. w.now) c.args.words.now) c.in-Ok.asked _ c.carry_out.result c.in-Ok.ensures.line
@@ -21,7 +22,13 @@ returns-in-Ok-clause-asked g c =
     asked_for (files_of (g.S.Store.held c.args.store.now)) (map (λ w. w.now) c.args.words.now) c.in-Ok.asked _ _ _ _ _ c.carry_out.result c.in-Ok.ensures.line c.carry_out.ensures
 
 pub returns-in-Err-clause-untouched : goal.returns-in-Err-clause-untouched
-returns-in-Err-clause-untouched g c = untouched _ _
+returns-in-Err-clause-untouched g c = untouched _ _ _ refl
+
+pub returns-in-Err-clause-silent : goal.returns-in-Err-clause-silent
+returns-in-Err-clause-silent g c = silent_for _ c.in-Err.error _ _ c.tell.result c.tell.ensures.quiet c.tell.ensures.answered
+
+pub returns-in-Ok-clause-silent : goal.returns-in-Ok-clause-silent
+returns-in-Ok-clause-silent g c = silent_any (map (λ w. w.now) c.args.words.now) c.in-Ok.asked _ c.carry_out.result c.in-Ok.ensures.line
 
 pub returns-in-Ok-clause-untouched : goal.returns-in-Ok-clause-untouched
-returns-in-Ok-clause-untouched g c = touched (map (λ w. w.now) c.args.words.now) c.in-Ok.asked _ _ c.in-Ok.ensures.line
+returns-in-Ok-clause-untouched g c = touched (map (λ w. w.now) c.args.words.now) c.in-Ok.asked _ _ _ c.in-Ok.ensures.line

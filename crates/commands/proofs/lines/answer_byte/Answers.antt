@@ -1,13 +1,19 @@
-use Rattle.std.proofs.Common.{rules}
-use Rattle.commands.proofs.MonLemmas.{printed_none}
+use Rattle.std.proofs.Common.{rules, refl}
+use Rattle.std.proofs.lemmas.Result.{err_from_is_err_and}
+use Rattle.commands.proofs.MonLemmas.{broken-byte, broken-line}
 use Rattle.commands.proofs.TalkLemmas.{goes-byte, goes-line}
 use Rattle.commands.proofs.lines.answer_byte.Goals as goal
 
 pub returns-in-Ok-clause-answered : goal.returns-in-Ok-clause-answered
 returns-in-Ok-clause-answered g c is = goes-byte _ _ _ _ _ _ (search rules) (search rules) is
 
-pub returns-in-Ok-clause-printed : goal.returns-in-Ok-clause-printed
-returns-in-Ok-clause-printed g c = printed_none _
-
 pub returns-clause-answered : goal.returns-clause-answered
 returns-clause-answered g c = search (rules, goes-line)
+
+pub returns-in-Err-clause-unanswered : goal.returns-in-Err-clause-unanswered
+returns-in-Err-clause-unanswered g c is = broken-byte g.row.VLENB _ _ _ _ _ refl is
+
+pub returns-in_err-flow-clause-unanswered : goal.returns-in_err-flow-clause-unanswered
+returns-in_err-flow-clause-unanswered g c =
+    let p = err_from_is_err_and c.from_residual.result c.from_residual.ensures.1 in
+    rw (p.1, p.2) (λ is. broken-line g.row.VLENB _ _ _ _ _ _ _ (search rules) (search rules) is c.in_err-flow.ensures.unanswered)

@@ -1,21 +1,19 @@
 use Rattle.std.proofs.Common.{rules, ◌+◌, refl}
 use Rattle.std.proofs.lemmas.Result.{err_from_is_err_and}
-use Rattle.commands.proofs.MonLemmas.{broken_after, printed_after, printed_none}
+use Rattle.commands.proofs.MonLemmas.{broken-step}
 use Rattle.commands.proofs.TalkLemmas.{goes-later, goes-none, goes-step}
 use Rattle.commands.specs.Streams.{stream}
 use Rattle.monitor.specs.declared.commands.Flow.TheVariants as flow
 use Rattle.commands.proofs.lines.answer_bytes.Goals as goal
 
 pub loop-byte-init : goal.loop-byte-init
-loop-byte-init g c = record { same = refl; first = refl; printed = printed_none _; goes = goes-none g.row.VLENB c.args.line.now.items _ _ }
+loop-byte-init g c = record { same = refl; first = refl; goes = goes-none g.row.VLENB c.args.line.now.items _ _ }
 
 pub returns-in_err-answer_byte-clause-unanswered : goal.returns-in_err-answer_byte-clause-unanswered
 returns-in_err-answer_byte-clause-unanswered g c =
     let p = err_from_is_err_and c.from_residual.result c.from_residual.ensures.1 in
-    rw (p.1, p.2) (broken_after _ (stream (g.O.Sink.contents c.loop-byte.output) (g.O.Sink.failures c.loop-byte.output)) _ _ c.loop-byte.invariant.printed c.in_err-answer_byte.ensures.unanswered)
-
-pub returns-in-Quit-clause-printed : goal.returns-in-Quit-clause-printed
-returns-in-Quit-clause-printed g c = printed_after _ (stream (g.O.Sink.contents c.loop-byte.output) (g.O.Sink.failures c.loop-byte.output)) _ c.loop-byte.invariant.printed c.in_ok-answer_byte.ensures.printed
+    rw (p.1, p.2) (λ is. broken-step g.row.VLENB c.args.line.now.items c.args.bytes.now c.loop-byte.byte-index 0 c.loop-byte.line.items _ (stream (g.O.Sink.contents c.loop-byte.output) (g.O.Sink.failures c.loop-byte.output)) _ _ _ _
+    (search rules) (c.loop-byte.invariant.goes is) c.in_err-answer_byte.ensures.unanswered)
 
 pub returns-in-Quit-clause-answered : goal.returns-in-Quit-clause-answered
 returns-in-Quit-clause-answered g c is =
@@ -27,7 +25,6 @@ pub loop-byte-preserved : goal.loop-byte-preserved
 loop-byte-preserved g c = record {
   same = search rules;
   first = search rules;
-  printed = printed_after _ (stream (g.O.Sink.contents c.loop-byte.output) (g.O.Sink.failures c.loop-byte.output)) _ c.loop-byte.invariant.printed c.in_ok-answer_byte.ensures.printed;
   goes = λ is. goes-step g.row.VLENB c.args.line.now.items c.args.bytes.now c.loop-byte.byte-index 0 c.loop-byte.line.items _ _ (stream (g.O.Sink.contents c.loop-byte.output) (g.O.Sink.failures c.loop-byte.output)) _ _ _ _ flow.Go _ c.in-Go.is
       (search rules) (c.loop-byte.invariant.goes is) c.in_ok-answer_byte.ensures.answered;
 }

@@ -1,6 +1,5 @@
 use Rattle.std.proofs.Common.{◌≡◌, ◌++◌, take}
 use Rattle.monitor.specs.declared.commands.Flow.TheVariants as flow
-use Rattle.commands.specs.Mons.{HasPrinted}
 use Rattle.commands.specs.Streams.{stream}
 use Rattle.commands.specs.Talks.{GoesOver, IsLine, watch}
 use Rattle.commands.proofs.lines.answer_bytes.Given as goal
@@ -10,7 +9,6 @@ abbrev pub invariant-loop-byte : goal.invariant-loop-byte
 invariant-loop-byte g l = record {
   same : l.monitor.session.ghost_name ≡ l.fn.monitor.session.ghost_name;
   first : l.monitor.session.now.first ≡ l.fn.monitor.session.now.first;
-  printed : HasPrinted (stream (g.O.Sink.contents l.initial.output) (g.O.Sink.failures l.initial.output)) (stream (g.O.Sink.contents l.output) (g.O.Sink.failures l.output));
   goes : IsLine l.initial.line.items → GoesOver g.row.VLENB (l.initial.line.items ++ take l.byte-index l.bytes) l.line.items
       (stream (g.O.Sink.contents l.initial.output) (g.O.Sink.failures l.initial.output)) (stream (g.O.Sink.contents l.output) (g.O.Sink.failures l.output))
       (watch l.initial.monitor.breakpoints.items l.initial.monitor.session.now) (watch l.monitor.breakpoints.items l.monitor.session.now) flow.Go;

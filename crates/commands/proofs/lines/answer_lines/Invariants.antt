@@ -11,6 +11,7 @@ invariant-loop g l = record {
   same : l.monitor.session.ghost_name ≡ l.fn.monitor.session.ghost_name;
   first : l.monitor.session.now.first ≡ l.fn.monitor.session.now.first;
   turns : (g.I.Source.reads l.initial.input + l.counter ≤ g.I.Source.reads l.input) ⊎ (2 ^ 64 - 1 ≤ g.I.Source.reads l.input);
+  within : g.I.Source.reads l.input ≤ g.I.Source.reads l.initial.input + l.counter;
   failed : g.I.Source.failures l.initial.input ≤ g.I.Source.failures l.input;
   goes : (read : List ℕ) × Consumes (g.I.Source.remaining l.initial.input) (g.I.Source.remaining l.input) read
       × GoesOver g.row.VLENB read l.line.items (stream (g.O.Sink.contents l.initial.output) (g.O.Sink.failures l.initial.output)) (stream (g.O.Sink.contents l.output) (g.O.Sink.failures l.output))

@@ -8,4 +8,4 @@ pub returns-in_default-clause-answer : goal.returns-in_default-clause-answer
 returns-in_default-clause-answer c = search rules
 
 pub returns-in-Err-clause-told : goal.returns-in-Err-clause-told
-returns-in-Err-clause-told c = c.not_made.ensures.told c.args.job.now.params
+returns-in-Err-clause-told c = c.not_made.ensures.told

@@ -8,15 +8,15 @@ use Rattle.commands.proofs.CommandLemmas.{ends_as, ends_by}
 use Rattle.commands.specs.WrittenLemmas.{nothing}
 use Rattle.commands.proofs.mons.mon_job_within.Goals as goal
 
-pub returns-in-Ok : goal.returns-in-Ok
-returns-in-Ok g c =
+pub returns-in-Ok-clause-ends : goal.returns-in-Ok-clause-ends
+returns-in-Ok-clause-ends g c =
     let has = g.S.Store.held c.mon_table-done.new.store in
     let e = (exchange (source (g.I.Source.remaining c.args.input.now) (g.I.Source.reads c.args.input.now) (g.I.Source.failures c.args.input.now)) (source (g.I.Source.remaining c.mon_table-done.new.input) (g.I.Source.reads c.mon_table-done.new.input) (g.I.Source.failures c.mon_table-done.new.input)) (stream (g.O.Sink.contents c.args.output.now) (g.O.Sink.failures c.args.output.now)) (stream (g.O.Sink.contents c.mon_table-done.new.output) (g.O.Sink.failures c.mon_table-done.new.output))) in
     let came = subst (λ (h : Option Held). MatchResult c.mon_table-done.result
     (Mons (files_of h) (table_view c.in-Ok.file.table) e h has) (StopsMon c.args.reads (files_of h) e (Gains h has) c.as_slice-text.result.now (table_view c.in-Ok.file.table)))
-    c.in-Ok.ensures.files c.mon_table-done.ensures in
+    c.in-Ok.ensures.files c.mon_table-done.ensures.done in
     ends_by c.mon_table-done.result _ _ c.ended.ensures.status c.ended.ensures.told came (λ did it. (table_view c.in-Ok.file.table, (c.in-Ok.file.text.items, c.in-Ok.ensures.table.0, c.in-Ok.ensures.table.1), it)) (λ why it. inr (c.as_slice-text.result.now, table_view c.in-Ok.file.table, rw (c.as_slice-text.ensures.value) c.in-Ok.ensures.table, it))
 
-pub returns-in-Err : goal.returns-in-Err
-returns-in-Err g c =
+pub returns-in-Err-clause-ends : goal.returns-in-Err-clause-ends
+returns-in-Err-clause-ends g c =
     ends_as (Err c.in-Err.halt) c.ended-in-Err.ensures.status c.ended-in-Err.ensures.told (inl (c.in-Err.ensures.table, (nothing _ _ c.in-Err.ensures.files, (refl, refl))))

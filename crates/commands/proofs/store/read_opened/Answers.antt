@@ -1,7 +1,7 @@
 -- Each read adds its bytes.
 use Rattle.std.proofs.Common.{◌∙◌, ap, rules, inl, inr}
 use Rattle.std.specs.IoError.{error_kind}
-use Rattle.commands.proofs.SourceLemmas.{all_turns, failed_unless, failures_more, gave_more, gave_same, if_told, one_failed, reads_more}
+use Rattle.commands.proofs.SourceLemmas.{all_turns, failed_unless, failures_more, gave_more, gave_same, if_told, one_failed, reads_more, reads_within}
 use Rattle.commands.specs.Streams.{has_failed, is_failure}
 use Rattle.commands.proofs.store.read_opened.Goals.{in-Ok+in_ok-extend_from_slice-in-Ok, in-Err}
 use Rattle.commands.proofs.store.read_opened.Goals as goal
@@ -33,6 +33,7 @@ loop-preserved g c = record {
   ];
   same = c.read.ensures.kept ∙ c.loop.invariant.same;
   turns = reads_more _ _ _ _ c.loop.invariant.turns c.read.ensures.reads;
+  within = reads_within _ _ _ _ c.loop.invariant.within c.read.ensures.reads;
   failed = failures_more (has_failed c.read.result) _ _ _ c.loop.invariant.failed c.read.ensures.failures;
 }
 

@@ -9,5 +9,6 @@ invariant-loop g l = record {
   few : length l.bytes.items ≤ l.most;
   same : g.D.System.known l.system ≡ g.D.System.known l.initial.system;
   turns : (g.D.System.reads l.initial.system + l.counter ≤ g.D.System.reads l.system) ⊎ (2 ^ 64 - 1 ≤ g.D.System.reads l.system);
+  within : g.D.System.reads l.system ≤ g.D.System.reads l.initial.system + l.counter;
   failed : g.D.System.failures l.initial.system ≤ g.D.System.failures l.system;
 }

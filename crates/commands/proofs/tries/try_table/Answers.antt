@@ -1,6 +1,7 @@
-use Rattle.std.proofs.Common.{rules, ◌≡◌, ◌∙◌, Some, inl, inr, map, refl}
+use Rattle.std.proofs.Common.{rules, ◌≡◌, ◌∙◌, ℕ, IfSome, Option, Some, inl, inr, map, refl, subst}
 use Rattle.job_file.specs.Needs.{try_job_in, try_job_lent}
 use Rattle.toml.specs.View.{table_view}
+use Rattle.commands.specs.Stands.{stand_line, stand_text}
 use Rattle.commands.specs.Streams.{stream}
 use Rattle.commands.specs.Tries.{ExplainsTrial, passed_by, trial_of}
 use Rattle.commands.proofs.CommandLemmas.{asked_for, finished, handed_on, passed_after, unasked, unpassed_after, unshown}
@@ -41,8 +42,10 @@ returns g c =
     let job = try_job_lent c.in_ok-job.job in
     let asked : try_job_in (table_view c.args.table.now) ≡ Some job = asked_for try_job_lent _ _ _ c.try_job_in.ensures c.in_ok-job.ensures in
     let passed = passed_after _ _ _ _ _ c.in_ok-image.ensures.files c.passed_params-passed.ensures c.in_ok-args.ensures.passed in
+    let last = c.in_ok-trial.ensures.last in
+    let stands = subst (λ (l : Option ℕ). IfSome c.stand-stand.result (λ at. stand_text at ≡ stand_line c.in_ok-image.image l c.in_ok-trial.field-0.trial.registers c.in_ok-trial.field-0.trial.end)) last c.stand-stand.ensures.stand in
     let text : c.as_slice.result.now ≡ c.in_ok-shown.shown.items = search rules in
-    finished (stream (g.O.Sink.contents c.args.output.now) (g.O.Sink.failures c.args.output.now)) (stream (g.O.Sink.contents c.finish.new.output) (g.O.Sink.failures c.finish.new.output)) (g.S.Store.held c.args.store.now) _ _ _ (map passed_by job.params) (trial_of job c.in_ok-image.image c.in_ok-args.args.places) (ExplainsTrial job c.in_ok-args.args.places) c.in_ok-trial.trial c.place-place.result c.args.registers c.as_slice.result.now c.finish.result _ _
+    finished (stream (g.O.Sink.contents c.args.output.now) (g.O.Sink.failures c.args.output.now)) (stream (g.O.Sink.contents c.finish.new.output) (g.O.Sink.failures c.finish.new.output)) (g.S.Store.held c.args.store.now) _ _ _ (map passed_by job.params) (trial_of job c.in_ok-image.image c.in_ok-args.args.places) (ExplainsTrial job c.in_ok-args.args.places) c.in_ok-trial.field-0.trial c.stand-stand.result c.args.registers c.as_slice.result.now c.finish.result _ _
     c.passed_params-passed.ensures c.in_ok-trial.ensures.answer (c.in_ok-args.ensures.files ∙ c.in_ok-image.ensures.files) (text ∙ c.in_ok-shown.ensures.shown)
     c.finish.ensures.did c.finish.ensures.told c.finish.ensures.wrote c.finish.ensures.unfinished
     (λ did comes outs told done. record {
@@ -52,12 +55,12 @@ returns g c =
       there = c.in_ok-image.ensures.image;
       args = c.in_ok-args.args.places;
       passed = passed;
-      trial = c.in_ok-trial.trial;
+      trial = c.in_ok-trial.field-0.trial;
       comes = comes;
       wrote = outs;
       told = told;
-      place = c.place-place.result;
-      stands = c.place-place.ensures.place;
+      stand = c.stand-stand.result;
+      stands = stands;
       done = done;
     })
     (λ why so. inr (job, asked, inr (c.in_ok-image.image, c.in_ok-image.ensures.image, inr (c.in_ok-args.args.places, passed, so))))

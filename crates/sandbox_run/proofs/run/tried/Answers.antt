@@ -1,7 +1,7 @@
 use Rattle.std.proofs.Common.{sym, arith}
 use Rattle.sandbox_run.proofs.Refusals.{refused_by-err}
 use Rattle.std.proofs.lemmas.Grind.{common_steps}
-use Rattle.sandbox_run.proofs.run.try_run_in.Goals as goal
+use Rattle.sandbox_run.proofs.run.tried.Goals as goal
 
 pub returns-in-Err-clause-refused : goal.returns-in-Err-clause-refused
 returns-in-Err-clause-refused g c = rw (refused_by-err _ _ (sym c.in-Err.ensures.meaning)) c.from.ensures
