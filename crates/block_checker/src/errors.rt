@@ -98,7 +98,7 @@ impl CheckError {
             CheckError::NoEntryBlock => "no block begins at the entry",
             CheckError::NotCode(_) => "no code",
             CheckError::IllegalWord(_) => Why::IllegalWord.words(),
-            CheckError::VtypeUnknown(_) => Why::VtypeUnknown.words(),
+            CheckError::VtypeUnknown(_) => "the vector type is not known to be as wanted",
             CheckError::AccessNotProved(_) => Why::AccessNotProved.words(),
             CheckError::ReadOnly(_) => Why::ReadOnly.words(),
             CheckError::TargetNotABlock(_) => Why::TargetNotABlock.words(),

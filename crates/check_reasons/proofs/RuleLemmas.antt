@@ -17,7 +17,7 @@ use Rattle.check_reasons.specs.declared.rules.Role.{Role}
 use Rattle.check_reasons.specs.declared.rules.Role.TheVariants as role
 use Rattle.check_reasons.specs.declared.rules.Rule.{Rule}
 use Rattle.check_reasons.specs.declared.rules.Rule.TheVariants as rule
-use Rattle.check_reasons.specs.Rules.{AreLegalAlone, first_alone, group_rule, multiple_rule, operand_rule, present_rule, rule_of, shared_rule, size_rule, width_rule}
+use Rattle.check_reasons.specs.Rules.{first_alone, group_rule, operand_rule, present_rule, rule_of, shared_rule}
 
 -- ---- parts of the operands
 
@@ -118,17 +118,6 @@ pub whole_broken : (vtype : Option Vtype) (which : Role) (first : ℕ) (count : 
 unfolding is_operand_legal operand_rule
 whole_broken (Some t) which first count p = broken_one (first % whole_count count == 0) (rule.Multiple which first (whole_count count)) p
 whole_broken None which first count p = broken_one (first % whole_count count == 0) (rule.Multiple which first (whole_count count)) p
-
-pub single_broken : (t : Vtype) (which : Role) (first : ℕ) (e : Eew) → is_operand_legal (Some t) (Single e) first ≡ false
-    → Some (rule.Width which (eew_bits t.sew e)) ≡ operand_rule (Some t) which first (Single e)
-unfolding is_operand_legal operand_rule
-single_broken t which first e p = broken_one (is_width (eew_bits t.sew e)) (rule.Width which (eew_bits t.sew e)) p
-
-pub mask_broken : (vtype : Option Vtype) (which : Role) (first : ℕ) → is_operand_legal vtype Mask first ≡ false
-    → Some rule.VectorType ≡ operand_rule vtype which first Mask
-unfolding is_operand_legal operand_rule
-mask_broken (Some t) which first p = cc
-mask_broken None which first p = refl
 
 legal_alone : (vtype : Option Vtype) (which : Role) (first : ℕ) (extent : Extent) → is_operand_legal vtype extent first ≡ true
     → None ≡ operand_rule vtype which first extent

@@ -1,5 +1,5 @@
 -- Accesses that the check refused, and in which words they are told.
-use Rattle.std.specs.Prelude.{ℕ, ℤ, pos, ◌+◌, ◌-◌, ◌++◌, ◌==◌, nat_lt, slice_index_or, Bool, true, false, List, [], ◌∷◌, codes, Option, Some, None, option_map, if◌then◌else◌}
+use Rattle.std.specs.Prelude.{ℕ, ℤ, pos, ◌+◌, ◌-◌, ◌++◌, ◌==◌, nat_lt, slice_index_or, Bool, true, false, List, [], ◌∷◌, codes, Option, Some, None, option_map, not, if◌then◌else◌}
 use Rattle.std.specs.Fmt.{decimal, signed_decimal}
 use Rattle.linear_facts.specs.declared.ranges.Range.{Range}
 use Rattle.rv_decode.specs.declared.instructions.Insn.{Insn}
@@ -24,7 +24,7 @@ use Rattle.abs_state.specs.After.{reach_of}
 use Rattle.abs_state.specs.State.{AbstractView}
 use Rattle.explanations.specs.Address.{address_text}
 use Rattle.check_reasons.specs.Groups.{group_at, vector_text}
-use Rattle.check_reasons.specs.Spans.{span_text}
+use Rattle.check_reasons.specs.Spans.{span_text, vl_line}
 use Rattle.check_reasons.specs.declared.access.Access.{Access}
 use Rattle.check_reasons.specs.declared.access.Apart.{Apart}
 use Rattle.check_reasons.specs.declared.access.Apart.TheVariants as apart
@@ -188,14 +188,28 @@ apart_line (apart.Indices register (Some fact)) =
 
 abbrev pub elements_lines : Option Elements → List ℕ
 elements_lines None = []
-elements_lines (Some told) =
-    codes "  known: vl in " ++ (span_text told.vl ++ (codes "\n" ++ apart_line told.apart))
+elements_lines (Some told) = vl_line told.vl ++ apart_line told.apart
 
--- the first byte and the last one
-abbrev pub reach_line : Option Reach → List ℕ
-reach_line None = codes "  known: no bounds of its bytes: the stride is not one number, "
-    ++ codes "or they reach below 0\n"
-reach_line (Some r) = codes "  known: its bytes in " ++ (address_text r.first
+-- whether elements lie apart by what is not one number
+abbrev pub is_varied : Apart → Bool
+is_varied apart.Close = false
+is_varied (apart.Stride register range) = not (range.lo == range.hi)
+is_varied (apart.Indices register known) = false
+
+abbrev pub is_varying : Option Elements → Bool
+is_varying None = false
+is_varying (Some told) = is_varied told.apart
+
+-- A stride that is one number leaves no bounds where it is below 0, and the last byte may be.
+abbrev pub no_reach : Bool → List ℕ
+no_reach true = codes "the stride is not one number"
+no_reach false = codes "they may reach below 0"
+
+-- the first byte and the last one, or why they are not known
+abbrev pub reach_line : Option Reach → Option Elements → List ℕ
+reach_line None elements = codes "  known: no bounds of its bytes: "
+    ++ (no_reach (is_varying elements) ++ codes "\n")
+reach_line (Some r) elements = codes "  known: its bytes in " ++ (address_text r.first
     ++ (codes "..=" ++ (address_text (r.end - 1) ++ codes "\n")))
 
 abbrev pub access_wanted : Operand → List ℕ
@@ -206,7 +220,7 @@ access_wanted o =
 -- the lines of what is wanted of an access
 unfoldable pub wanted_lines : Access → List ℕ
 wanted_lines a =
-    reach_line a.reach ++ (access_wanted a.operand
+    reach_line a.reach a.elements ++ (access_wanted a.operand
     ++ zone_lines a.segments a.buffers.items a.zones.items)
 
 -- the lines of an access

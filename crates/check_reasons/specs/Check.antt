@@ -13,6 +13,7 @@ use Rattle.vreg_groups.specs.declared.vector_length.Vlen.TheVariants as vlen
 use Rattle.linear_facts.specs.declared.ranges.Range.{Range}
 use Rattle.abs_domain.specs.Numbers.{value_at}
 use Rattle.abs_domain.specs.Zones.{zones_of}
+use Rattle.abs_domain.specs.declared.numbers.TheConstants.{VL}
 use Rattle.abs_state.specs.State.{AbstractView}
 use Rattle.abs_state.specs.declared.state.TheConstants.{MOST_WORDS}
 use Rattle.abs_transfer.specs.declared.accesses.Reach.{Reach}
@@ -31,6 +32,7 @@ use Rattle.explanations.specs.Address.{address_text}
 use Rattle.explanations.specs.Words.{listing_line, word_line}
 use Rattle.check_reasons.specs.Edge.{edge_at, edge_text}
 use Rattle.check_reasons.specs.Illegal.{illegal_in, illegal_text}
+use Rattle.check_reasons.specs.Spans.{vl_line}
 use Rattle.check_reasons.specs.Vtypes.{kept_vtype}
 use Rattle.check_reasons.specs.declared.access.Elements.{Elements}
 use Rattle.check_reasons.specs.declared.access.Operand.{Operand}
@@ -114,16 +116,18 @@ IsAccessOf image certificate word before (Some o) wanted.Plain = ⊥
 IsAccessOf image certificate word before (Some o) (wanted.Length stated bits) = ⊥
 IsAccessOf image certificate word before (Some o) (wanted.Entry entry) = ⊥
 IsAccessOf image certificate word before (Some o) (wanted.Edge edge) = ⊥
-IsAccessOf image certificate word before (Some o) (wanted.Illegal told) = ⊥
+IsAccessOf image certificate word before (Some o) (wanted.Illegal vl told) = ⊥
 
 abbrev pub IsAccess : ImageView → CertificateView → Option ℕ → Option AbstractView → Wanted
     → Type 0
 IsAccess image certificate word before told =
     IsAccessOf image certificate word before (access_operand word) told
 
--- what is told of a word that is not legal, if it means an instruction
+-- what is told of a word that is not legal, if it means an instruction: what is known of vl, and
+-- its operands
 abbrev pub illegal_at : Option Insn → Option AbstractView → Wanted
-illegal_at (Some insn) (Some a) = wanted.Illegal (illegal_in (kept_vtype a.vtype) insn)
+illegal_at (Some insn) (Some a) =
+    wanted.Illegal (value_at a.numbers VL).range (illegal_in (kept_vtype a.vtype) insn)
 illegal_at (Some insn) None = wanted.Plain
 illegal_at None before = wanted.Plain
 
@@ -221,7 +225,7 @@ rule at (error.EqualityNotProved pc) =
 rule at (error.OrderNotProved pc) = codes "  wanted: the orders of the block entered\n"
 rule at (error.VectorFactNotProved pc) = codes "  wanted: the vector facts of the block entered\n"
 rule at (error.BudgetNotProved pc) =
-    codes "  wanted: a budget for these words and the block entered\n"
+    codes "  wanted: a budget for these words and all that may follow\n"
 rule at (error.BlockTooLong pc) =
     codes "  wanted: at most " ++ (decimal MOST_WORDS ++ codes " words in a block\n")
 rule at error.NoMemory = []
@@ -239,7 +243,7 @@ wanted_text (wanted.Entry entry) =
     codes "  wanted: a block at the entry, " ++ (address_text entry ++ codes "\n")
 wanted_text (wanted.Access access) = access_text access
 wanted_text (wanted.Edge edge) = edge_text edge
-wanted_text (wanted.Illegal told) = illegal_text told
+wanted_text (wanted.Illegal vl told) = vl_line vl ++ illegal_text told
 
 -- the lines of a reason
 unfoldable pub check_text : {A : Type 0} → CheckReason A → List ℕ

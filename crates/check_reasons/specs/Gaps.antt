@@ -55,7 +55,8 @@ asked_line behind number = codes "  known: these words and "
     ++ (behind ++ (codes " are at most " ++ (decimal number ++ codes "\n")))
 
 abbrev pub lack_line : ℕ → List ℕ
-lack_line number = codes "  lacking, by the difference of both: " ++ (decimal number ++ codes "\n")
+lack_line number =
+    codes "  lacking, by the difference of the sums: " ++ (decimal number ++ codes "\n")
 
 -- the lines of a budget that is too small for these words and what is behind them
 unfoldable pub gap_lines : Gap → List ℕ → List ℕ

@@ -54,9 +54,12 @@ illegal_in vtype insn = record {
 unfoldable pub registers_text : ℕ → List ℕ
 registers_text n = if n == 1 then codes "1 register" else decimal n ++ codes " registers"
 
+unfoldable pub width_text : ℕ → List ℕ
+width_text n = if n == 1 then codes "1 bit" else decimal n ++ codes " bits"
+
 abbrev pub elements_text : Option ℕ → List ℕ
 elements_text None = []
-elements_text (Some bits) = codes ", elements of " ++ (decimal bits ++ codes " bits")
+elements_text (Some bits) = codes ", elements of " ++ width_text bits
 
 abbrev pub group_line : List ℕ → Option Group → List ℕ
 group_line name None = []

@@ -14,7 +14,7 @@ use Rattle.abs_state.specs.Branches.{EdgeView, value_on}
 use Rattle.abs_state.specs.Edges.{is_interval_shown, is_equality_shown, is_order_shown, is_vector_shown}
 use Rattle.block_checker.specs.declared.errors.CheckError.{CheckError}
 use Rattle.block_checker.specs.declared.errors.CheckError.TheVariants as error
-use Rattle.check_reasons.specs.Spans.{span_text}
+use Rattle.check_reasons.specs.Spans.{span_text, vl_line}
 use Rattle.check_reasons.specs.Gaps.{gap_of, gap_text}
 use Rattle.check_reasons.specs.Groups.{group_at, vector_text}
 use Rattle.check_reasons.specs.Sums.{name_text, sum_text}
@@ -150,7 +150,7 @@ order_lines lesser greater =
     number_lines lesser ++ (number_lines greater ++ wanted_order lesser.register greater.register)
 
 unfoldable pub vector_lines : VectorFact → Option VectorFact → Range → List ℕ
-vector_lines wanted known vl = range_line VL vl ++ (known_group known ++ wanted_group wanted)
+vector_lines wanted known vl = vl_line vl ++ (known_group known ++ wanted_group wanted)
 
 abbrev pub vtype_lines : HeldVtype → ℕ → List ℕ
 vtype_lines known wanted = known_words ++ (held_text known

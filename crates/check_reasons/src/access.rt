@@ -6,13 +6,14 @@ ghost use Rattle.abs_transfer.specs.Scalar.{address_range as address_range_of};
 ghost use Rattle.check_reasons.specs.Access.{access_wanted, apart_in, buffer_place};
 ghost use Rattle.check_reasons.specs.Access.{buffer_places as buffer_places_of};
 ghost use Rattle.check_reasons.specs.Access.{elements_in as elements_in_of, is_buffer};
+ghost use Rattle.check_reasons.specs.Access.{is_varied, is_varying, no_reach};
 ghost use Rattle.check_reasons.specs.Access.{is_store, operand_of};
 ghost use Rattle.check_reasons.specs.Access.{reach_from as reach_from_of};
 ghost use Rattle.check_reasons.specs.Access.{reach_in as reach_in_of, rights_text, scalar_operand};
 ghost use Rattle.check_reasons.specs.Access.{scalar_reach as scalar_reach_of};
 
 use crate::groups::{Vector, group_at};
-use crate::spans::Span;
+use crate::spans::{Span, VlLine};
 use abs_state::{Abstract, Numbers, Reach, Zone, address_range};
 use arrayvec::ArrayVec;
 use cert_note::VectorFact;
@@ -400,29 +401,61 @@ impl fmt::Display for ElementsLines {
         match self.0 {
             None => Ok(()),
             Some(elements) => {
-                let vl = Span(elements.vl);
+                let vl = VlLine(elements.vl);
                 let apart = ApartLine(elements.apart);
-                write!(f, "  known: vl in {vl}\n{apart}")
+                write!(f, "{vl}{apart}")
             }
         }
     }
 }
 
-/// Where the bytes of an access may lie, as a line: the first one and the last one.
+/// Whether elements lie apart by what is not one number.
+fn is_varied(apart: Apart) -> bool
+    ensures { result ≡ is_varied apart }
+{
+    match apart {
+        Apart::Stride { range, .. } => range.lo != range.hi,
+        Apart::Close | Apart::Indices { .. } => false,
+    }
+}
+
+/// Whether the elements of a vector access lie apart by what is not one number.
+fn is_varying(elements: Option<Elements>) -> bool
+    ensures { result ≡ is_varying elements }
+{
+    match elements {
+        None => false,
+        Some(elements) => is_varied(elements.apart),
+    }
+}
+
+/// Why the bytes of an access have no bounds.
+fn no_reach(is_varying: bool) -> &'static str
+    ensures { result.now ≡ no_reach is_varying }
+{
+    if is_varying {
+        "the stride is not one number"
+    } else {
+        "they may reach below 0"
+    }
+}
+
+/// Where the bytes of an access may lie, as a line: the first one and the last one, or what of its elements leaves that open.
 #[derive(Clone, Copy)]
-struct ReachLine(Option<Reach>);
+struct ReachLine(Option<Reach>, Option<Elements>);
 
 impl fmt::Display for ReachLine {
     ghost use Rattle.std.specs.Prelude.{Some};
     ghost use Rattle.check_reasons.specs.Access.{reach_line};
 
-    ghost output = { λ line. Some (reach_line line.0) };
+    ghost output = { λ line. Some (reach_line line.0 line.1) };
 
     fn fmt<W: fmt::Write>(&self, f: &mut fmt::Formatter<W>) -> fmt::Result {
         match self.0 {
-            None => f.write_str(
-                "  known: no bounds of its bytes: the stride is not one number, or they reach below 0\n",
-            ),
+            None => {
+                let cause = no_reach(is_varying(self.1));
+                writeln!(f, "  known: no bounds of its bytes: {cause}")
+            }
             Some(reach) => {
                 let first = Address(reach.first);
                 let last = Address(reach.end.saturating_sub(1));
@@ -476,7 +509,7 @@ impl fmt::Display for Access {
         let interval = Span(self.interval);
         let size = SizeLines(self.operand);
         let elements = ElementsLines(self.elements);
-        let reach = ReachLine(self.reach);
+        let reach = ReachLine(self.reach, self.elements);
         let wanted = access_wanted(self.operand);
         let zones = ZoneLines {
             segments: self.segments,

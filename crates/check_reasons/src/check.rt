@@ -15,12 +15,15 @@ ghost use Rattle.check_reasons.specs.Edge.{edge_from};
 use crate::access::{Access, buffer_places, elements_in, operand_of, reach_in};
 use crate::edge::{Edge, edge_at};
 use crate::illegal::{Illegal, operands_in};
+use crate::spans::VlLine;
 use crate::vtypes::kept_vtype;
+use abs_domain::VL;
 use abs_state::{MOST_WORDS, memory_zones};
 use block_checker::{CheckError, Explanation, Kept, Part, Refused, Spot, Stop, checked};
 use cert_note::Certificate;
 use elf_image::Image;
 use explanations::{Address, WordLine, listed};
+use linear_facts::Range;
 use rv_decode::decode;
 use std::alloc::{AllocError, Allocator, Global};
 use std::fmt;
@@ -32,7 +35,10 @@ pub enum Wanted {
     /// Nothing more.
     Plain,
     /// A certificate for vector registers of this length; it states another one.
-    Length { stated: Vlen, wanted: Vlen },
+    Length {
+        stated: Vlen,
+        wanted: Vlen,
+    },
     /// A block at the image's entry.
     Entry(u32),
     /// Bytes that lie in one zone with the right.
@@ -40,7 +46,11 @@ pub enum Wanted {
     /// What the block that a way out enters states.
     Edge(Edge),
     /// Operands that are legal under the vector type that is known.
-    Illegal(Illegal),
+    Illegal {
+        /// What is known of vl.
+        vl: Range,
+        illegal: Illegal,
+    },
 }
 
 /// Why an image is refused with its certificate.
@@ -158,7 +168,10 @@ fn illegal_at<A: Allocator, B: Allocator>(image: &Image<B>, stop: &Option<Stop<A
     let Some(insn) = decode(word) else {
         return Wanted::Plain;
     };
-    Wanted::Illegal(operands_in(kept_vtype(stop.state.vtype()), &insn))
+    Wanted::Illegal {
+        vl: stop.state.numbers().range_at(VL),
+        illegal: operands_in(kept_vtype(stop.state.vtype()), &insn),
+    }
 }
 
 /// What is wanted where no way out is refused.
@@ -413,7 +426,7 @@ impl fmt::Display for RuleLine {
             CheckError::VectorFactNotProved(_) =>
                 "  wanted: the vector facts of the block entered\n",
             CheckError::BudgetNotProved(_) =>
-                "  wanted: a budget for these words and the block entered\n",
+                "  wanted: a budget for these words and all that may follow\n",
             CheckError::BlockTooLong(_) => {
                 return writeln!(f, "  wanted: at most {MOST_WORDS} words in a block");
             }
@@ -443,7 +456,10 @@ impl fmt::Display for Wanted {
             }
             Wanted::Access(access) => write!(f, "{access}"),
             Wanted::Edge(edge) => write!(f, "{edge}"),
-            Wanted::Illegal(illegal) => write!(f, "{illegal}"),
+            Wanted::Illegal { vl, illegal } => {
+                let vl = VlLine(*vl);
+                write!(f, "{vl}{illegal}")
+            }
         }
     }
 }

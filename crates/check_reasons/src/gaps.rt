@@ -142,7 +142,7 @@ impl fmt::Display for GapLines<'_> {
         let Gap { left, asked, lack } = gap;
         writeln!(f, "  known: the budget left is at least {left}")?;
         writeln!(f, "  known: these words and {behind} are at most {asked}")?;
-        writeln!(f, "  lacking, by the difference of both: {lack}")
+        writeln!(f, "  lacking, by the difference of the sums: {lack}")
     }
 }
 

@@ -131,6 +131,27 @@ impl fmt::Display for Registers {
     }
 }
 
+/// A number of bits.
+#[derive(Clone, Copy)]
+struct Width(u8);
+
+impl fmt::Display for Width {
+    ghost use Rattle.std.specs.Prelude.{Some};
+    ghost use Rattle.check_reasons.specs.Illegal.{width_text};
+
+    ghost output = { λ width. Some (width_text width.0) };
+
+    #[tactic(auto, unfolding(crate::specs::Illegal::width_text))]
+    fn fmt<W: fmt::Write>(&self, f: &mut fmt::Formatter<W>) -> fmt::Result {
+        let bits = self.0;
+        if bits == 1 {
+            f.write_str("1 bit")
+        } else {
+            write!(f, "{bits} bits")
+        }
+    }
+}
+
 /// The width of a group's elements, where it is known.
 #[derive(Clone, Copy)]
 struct ElementsOf(Option<u8>);
@@ -144,7 +165,10 @@ impl fmt::Display for ElementsOf {
     fn fmt<W: fmt::Write>(&self, f: &mut fmt::Formatter<W>) -> fmt::Result {
         match self.0 {
             None => Ok(()),
-            Some(bits) => write!(f, ", elements of {bits} bits"),
+            Some(bits) => {
+                let width = Width(bits);
+                write!(f, ", elements of {width}")
+            }
         }
     }
 }

@@ -1,4 +1,4 @@
-//! Intervals of addresses, as they are told.
+//! Intervals as they are told, and that of vl.
 
 use explanations::Address;
 use linear_facts::Range;
@@ -18,5 +18,21 @@ impl fmt::Display for Span {
         let low = Address(u64::from(self.0.lo));
         let high = Address(u64::from(self.0.hi));
         write!(f, "{low}..={high}")
+    }
+}
+
+/// What is known of vl, as a line.
+#[derive(Clone, Copy)]
+pub(crate) struct VlLine(pub(crate) Range);
+
+impl fmt::Display for VlLine {
+    ghost use Rattle.std.specs.Prelude.{Some};
+    ghost use Rattle.check_reasons.specs.Spans.{vl_line};
+
+    ghost output = { λ line. Some (vl_line line.0) };
+
+    fn fmt<W: fmt::Write>(&self, f: &mut fmt::Formatter<W>) -> fmt::Result {
+        let vl = Span(self.0);
+        writeln!(f, "  known: vl in {vl}")
     }
 }

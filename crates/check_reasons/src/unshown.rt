@@ -16,7 +16,7 @@ ghost use Rattle.check_reasons.specs.Unshown.{unshown_vtype as unshown_vtype_of}
 
 use crate::gaps::{Gap, gap_on};
 use crate::groups::{Vector, group_at};
-use crate::spans::Span;
+use crate::spans::{Span, VlLine};
 use crate::sums::{Name, Sum, VL, sum_of, sum_stated};
 use crate::vtypes::{HeldVtype, VtypeText, kept_vtype};
 use abs_state::{
@@ -361,28 +361,22 @@ impl fmt::Display for OrderLines<'_> {
     }
 }
 
-/// A fact on vector registers that is wanted, with what is known of the group, and of vl.
+/// A fact on vector registers that is wanted, what is known of the group, and of vl.
 #[derive(Clone, Copy)]
-struct VectorLines {
-    wanted: VectorFact,
-    known: Option<VectorFact>,
-    vl: Range,
-}
+struct VectorLines(VectorFact, Option<VectorFact>, Range);
 
 impl fmt::Display for VectorLines {
     ghost use Rattle.std.specs.Prelude.{Some};
     ghost use Rattle.check_reasons.specs.Unshown.{vector_lines};
 
-    ghost output = { λ lines. Some (vector_lines lines.wanted lines.known lines.vl) };
+    ghost output = { λ lines. Some (vector_lines lines.0 lines.1 lines.2) };
 
     #[tactic(auto, unfolding(crate::specs::Unshown::vector_lines))]
     fn fmt<W: fmt::Write>(&self, f: &mut fmt::Formatter<W>) -> fmt::Result {
-        let range = Span(self.vl);
-        let vl = Name(VL);
-        let known = KnownGroup(self.known);
-        let wanted = Vector(self.wanted);
-        writeln!(f, "  known: {vl} in {range}")?;
-        writeln!(f, "{known}  wanted on entering it: {wanted}")
+        let wanted = Vector(self.0);
+        let known = KnownGroup(self.1);
+        let vl = VlLine(self.2);
+        writeln!(f, "{vl}{known}  wanted on entering it: {wanted}")
     }
 }
 
@@ -424,11 +418,7 @@ impl fmt::Display for Unshown {
                 write!(f, "{lines}")
             }
             Unshown::Vector { wanted, known, vl } => {
-                let lines = VectorLines {
-                    wanted: *wanted,
-                    known: *known,
-                    vl: *vl,
-                };
+                let lines = VectorLines(*wanted, *known, *vl);
                 write!(f, "{lines}")
             }
             Unshown::Budget(gap) => write!(f, "{gap}"),

@@ -213,8 +213,8 @@ abbrev pub field_number : ℕ → List ℕ
 field_number value = decimal value ++ (codes " (" ++ (address_text value ++ codes ")\n"))
 
 abbrev pub excess_text : Excess → List ℕ
-excess_text (excess.File size) = codes "  size of the file: "
-    ++ (decimal size ++ (codes "\n  wanted: at most " ++ (decimal MAX_FILE_SIZE ++ codes "\n")))
+excess_text (excess.File size) = codes "  size of the file: " ++ (decimal size
+    ++ (codes " or more\n  wanted: at most " ++ (decimal MAX_FILE_SIZE ++ codes "\n")))
 excess_text (excess.Segments count) = codes "  segments: "
     ++ (decimal count ++ (codes "\n  wanted: at most " ++ (decimal MAX_SEGMENTS ++ codes "\n")))
 excess_text (excess.Memory size) = codes "  bytes of memory of its segments: "

@@ -3,6 +3,7 @@ use Rattle.std.specs.Prelude.{◌≡◌, ℕ, ◌+◌, ◌-◌, ◌++◌, ◌==�
 use Rattle.std.specs.Prelude.{position, Option, Some, None, string_bytes, if◌then◌else◌}
 use Rattle.std.specs.Fmt.{decimal}
 use Rattle.std.specs.List.{slice_get}
+use Rattle.std.specs.Option.{option_and_then}
 use Rattle.std.specs.Str.Lossy.{utf8_lossy}
 use Rattle.elf_image.specs.Image.{ImageView, code_at}
 use Rattle.elf_image.specs.Faults.{is_too_short}
@@ -15,6 +16,11 @@ use Rattle.elf_image.specs.declared.error.ElfError.TheVariants as error
 use Rattle.region_mem.specs.Parameter.{is_valid}
 use Rattle.region_mem.specs.declared.parameter.Param.{Param}
 use Rattle.region_mem.specs.declared.parameter.Param.TheVariants as parameter
+use Rattle.rv_decode.specs.Decode.{meaning_of}
+use Rattle.rv_decode.specs.declared.instructions.Insn.{Insn}
+use Rattle.rv_decode.specs.declared.instructions.Insn.TheVariants as insn
+use Rattle.rv_decode.specs.declared.instructions.ScalarInsn.{ScalarInsn}
+use Rattle.rv_decode.specs.declared.instructions.ScalarInsn.TheVariants as scalar
 use Rattle.rv_listing.specs.Listing.{listing_text}
 use Rattle.explanations.specs.Words.{listing_line, word_line}
 use Rattle.explanations.specs.declared.make.LoopRow.{LoopRow}
@@ -24,10 +30,20 @@ use Rattle.explanations.specs.declared.make.MakeReason.TheVariants as reason
 
 -- ---- a word that does not fit
 
--- which row of a plain loop is wanted at an address, for a loop that begins at the entry
-abbrev pub row_of : ℕ → ℕ → LoopRow
-row_of entry pc =
-    if pc == entry then row.Count else (if pc == entry + 4 then row.Length else row.Later)
+-- which row of a plain loop is wanted behind the second one, by what stands there
+abbrev pub scalar_row : ScalarInsn → LoopRow
+scalar_row (scalar.ShiftImmediate op rd rs1 amount) = row.Shift
+scalar_row other = row.Later
+
+abbrev pub row_behind : Option Insn → LoopRow
+row_behind (Some (insn.VMem i)) = row.Access
+row_behind (Some (insn.Scalar i)) = scalar_row i
+row_behind other = row.Later
+
+-- and which at an address, for a loop that begins at the entry
+abbrev pub row_of : ℕ → ℕ → Option Insn → LoopRow
+row_of entry pc there = if pc == entry then row.Count
+    else (if pc == entry + 4 then row.Length else row_behind there)
 
 -- what is told of the word at an address, if there is one, and how it is listed
 abbrev pub IsWordTold : ℕ → LoopRow → Option ℕ → MakeReason → Type 0
@@ -43,7 +59,9 @@ IsWordTold pc wanted (Some word) (reason.Certified size) = ⊥
 IsWordTold pc wanted (Some word) (reason.LargeFile size headers certificate) = ⊥
 
 abbrev pub IsWordReason : ImageView → ℕ → MakeReason → Type 0
-IsWordReason image pc told = IsWordTold pc (row_of image.entry pc) (code_at pc image) told
+IsWordReason image pc told =
+    IsWordTold pc (row_of image.entry pc (option_and_then meaning_of (code_at pc image)))
+    (code_at pc image) told
 
 -- ---- a parameter that there can't be
 
@@ -102,12 +120,23 @@ row_wanted row.Count =
     codes "  wanted: beqz n,end, where n is a scalar: row 1 of a plain loop (docs/MAKE.md)\n"
 row_wanted row.Length =
     codes "  wanted: vsetvli t,n: row 2 of a plain loop (docs/MAKE.md)\n"
-row_wanted row.Later =
+row_wanted other =
     codes "  wanted: what goes on with these words: rows 3 to 8 of a plain loop (docs/MAKE.md)\n"
+
+-- and besides of what stands there
+abbrev pub row_more : LoopRow → List ℕ
+row_more row.Access = codes "  wanted of a load or store: "
+    ++ codes "a buffer of all elements, and mode rw where it is stored to\n"
+row_more row.Shift =
+    codes "  wanted of a shift: by 1 at elements of 16 bits, by 2 at 32, and none at 8\n"
+row_more other = []
+
+abbrev pub row_lines : LoopRow → List ℕ
+row_lines wanted = row_wanted wanted ++ row_more wanted
 
 abbrev pub room_wanted : List ℕ
 room_wanted = codes "  wanted: at most " ++ (decimal (MAX_PROGRAM_HEADERS - 1)
-    ++ (codes ", and at most " ++ (decimal MAX_FILE_SIZE
+    ++ (codes " of them, and at most " ++ (decimal MAX_FILE_SIZE
     ++ codes " bytes with one more and the certificate\n")))
 
 -- a scalar that no number is: the number lo, and that it is above hi
@@ -133,9 +162,9 @@ size_lines size certificate = codes "  size of the file: "
 -- the lines of a reason
 abbrev pub make_text : MakeReason → List ℕ
 make_text reason.Untold = []
-make_text (reason.NoWord pc wanted) = word_line pc None ++ row_wanted wanted
+make_text (reason.NoWord pc wanted) = word_line pc None ++ row_lines wanted
 make_text (reason.Word pc word listing wanted) =
-    word_line pc (Some word) ++ (listing_line (Some listing) ++ row_wanted wanted)
+    word_line pc (Some word) ++ (listing_line (Some listing) ++ row_lines wanted)
 make_text (reason.Empty place lo hi) = empty_lines place lo hi
 make_text (reason.LargeBuffer place size) = large_buffer_lines place size
 make_text (reason.Certified size) = codes "  there: a certificate of "

@@ -52,7 +52,7 @@ pub enum ElfField {
 /// Of what a file has too much.
 #[derive(Clone, Copy, PartialEq, Eq)]
 pub enum Excess {
-    /// So many bytes.
+    /// So many bytes, or more: a file is read no further than one byte beyond its limit.
     File(usize),
     /// So many segments.
     Segments(usize),
@@ -439,7 +439,7 @@ impl fmt::Display for Excess {
             Excess::File(size) => {
                 write!(
                     f,
-                    "  size of the file: {size}\n  wanted: at most {MAX_FILE_SIZE}\n"
+                    "  size of the file: {size} or more\n  wanted: at most {MAX_FILE_SIZE}\n"
                 )
             }
             Excess::Segments(count) => {

@@ -2,14 +2,15 @@
 //! can't be, or why the file takes no certificate.
 ghost use Rattle.std.specs.Prelude.{◌≡◌, IfOk, position};
 ghost use Rattle.explanations.specs.Make.{IsWordReason, attach_reason, certificate_size};
-ghost use Rattle.explanations.specs.Make.{is_invalid, parameter_reason, row_of};
-ghost use Rattle.explanations.specs.Make.{bare_wanted, row_wanted};
+ghost use Rattle.explanations.specs.Make.{is_invalid, parameter_reason, row_behind, row_of};
+ghost use Rattle.explanations.specs.Make.{bare_wanted, row_more, row_wanted, scalar_row};
 
 use crate::words::{WordLine, listed};
 use elf_image::{
     E_PHNUM, ElfError, Image, MAX_FILE_SIZE, MAX_PROGRAM_HEADERS, half_at, is_too_short,
 };
 use region_mem::{MAX_BUFFER_SIZE, Param};
+use rv_decode::{Insn, ScalarInsn, decode, vector_arithmetic};
 use std::alloc::{AllocError, Global};
 use std::fmt;
 
@@ -20,7 +21,11 @@ pub enum LoopRow {
     Count,
     /// The second, behind it.
     Length,
-    /// One behind these.
+    /// One behind these, where a vector load or store stands.
+    Access,
+    /// One behind these, where a shift by a number stands.
+    Shift,
+    /// One behind these, where anything else stands.
     Later,
 }
 
@@ -62,16 +67,48 @@ pub enum MakeReason {
     },
 }
 
-/// Which row is wanted at an address, for a loop that begins at the entry.
-fn row_of(entry: u32, pc: u32) -> LoopRow
-    ensures { result ≡ row_of entry pc }
+/// Which row is wanted where a scalar instruction stands behind the second one.
+fn scalar_row(insn: ScalarInsn) -> LoopRow
+    ensures { result ≡ scalar_row insn }
+{
+    match insn {
+        ScalarInsn::ShiftImmediate { .. } => LoopRow::Shift,
+        ScalarInsn::Lui { .. }
+        | ScalarInsn::Auipc { .. }
+        | ScalarInsn::Jal { .. }
+        | ScalarInsn::Jalr { .. }
+        | ScalarInsn::Branch { .. }
+        | ScalarInsn::Load { .. }
+        | ScalarInsn::Store { .. }
+        | ScalarInsn::Immediate { .. }
+        | ScalarInsn::Register { .. }
+        | ScalarInsn::Fence
+        | ScalarInsn::Ecall => LoopRow::Later,
+    }
+}
+
+/// Which row is wanted behind the second one, by what stands there.
+fn row_behind(insn: Option<Insn>) -> LoopRow
+    ensures { result ≡ row_behind insn }
+{
+    match insn {
+        None => LoopRow::Later,
+        Some(Insn::VMem(_)) => LoopRow::Access,
+        Some(Insn::Scalar(insn)) => scalar_row(insn),
+        Some(Insn::Csr(_) | Insn::VSet(_) | vector_arithmetic!()) => LoopRow::Later,
+    }
+}
+
+/// Which row is wanted at an address, for a loop that begins at the entry, by what stands there.
+fn row_of(entry: u32, pc: u32, insn: Option<Insn>) -> LoopRow
+    ensures { result ≡ row_of entry pc insn }
 {
     if pc == entry {
         LoopRow::Count
     } else if u64::from(pc) == u64::from(entry) + 4 {
         LoopRow::Length
     } else {
-        LoopRow::Later
+        row_behind(insn)
     }
 }
 
@@ -82,10 +119,12 @@ fn row_of(entry: u32, pc: u32) -> LoopRow
 pub fn word_reason(alloc: Global, image: &Image, pc: u32) -> Result<MakeReason, AllocError>
     ensures { IfOk result (IsWordReason image.now pc) }
 {
-    let row = row_of(image.entry(), pc);
+    let entry = image.entry();
     let Some(word) = image.code_at(pc) else {
+        let row = row_of(entry, pc, None);
         return Ok(MakeReason::NoWord { pc, row });
     };
+    let row = row_of(entry, pc, decode(word));
     let listing = listed(alloc, word, pc)?;
     Ok(MakeReason::Word {
         pc,
@@ -185,9 +224,41 @@ fn row_wanted(row: LoopRow) -> &'static str
             "  wanted: beqz n,end, where n is a scalar: row 1 of a plain loop (docs/MAKE.md)\n"
         }
         LoopRow::Length => { "  wanted: vsetvli t,n: row 2 of a plain loop (docs/MAKE.md)\n" }
-        LoopRow::Later => {
+        LoopRow::Access | LoopRow::Shift | LoopRow::Later => {
             "  wanted: what goes on with these words: rows 3 to 8 of a plain loop (docs/MAKE.md)\n"
         }
+    }
+}
+
+/// What is wanted besides of what stands there, as a line.
+fn row_more(row: LoopRow) -> &'static str
+    ensures { result.now ≡ row_more row }
+{
+    match row {
+        LoopRow::Access => {
+            "  wanted of a load or store: a buffer of all elements, and mode rw where it is stored to\n"
+        }
+        LoopRow::Shift => {
+            "  wanted of a shift: by 1 at elements of 16 bits, by 2 at 32, and none at 8\n"
+        }
+        LoopRow::Count | LoopRow::Length | LoopRow::Later => "",
+    }
+}
+
+/// What is wanted of a row, in lines.
+#[derive(Clone, Copy)]
+struct RowLines(LoopRow);
+
+impl fmt::Display for RowLines {
+    ghost use Rattle.std.specs.Prelude.{Some};
+    ghost use Rattle.explanations.specs.Make.{row_lines};
+
+    ghost output = { λ lines. Some (row_lines lines.0) };
+
+    fn fmt<W: fmt::Write>(&self, f: &mut fmt::Formatter<W>) -> fmt::Result {
+        let wanted = row_wanted(self.0);
+        let more = row_more(self.0);
+        write!(f, "{wanted}{more}")
     }
 }
 
@@ -205,7 +276,7 @@ impl fmt::Display for RoomWanted {
         let most = MAX_PROGRAM_HEADERS - 1;
         write!(
             f,
-            "  wanted: at most {most}, and at most {MAX_FILE_SIZE} bytes with one more and the \
+            "  wanted: at most {most} of them, and at most {MAX_FILE_SIZE} bytes with one more and the \
              certificate\n"
         )
     }
@@ -286,7 +357,7 @@ impl fmt::Display for MakeReason {
             MakeReason::Untold => Ok(()),
             MakeReason::NoWord { pc, row } => {
                 let line = WordLine(*pc, None);
-                let wanted = row_wanted(*row);
+                let wanted = RowLines(*row);
                 write!(f, "{line}{wanted}")
             }
             MakeReason::Word {
@@ -296,7 +367,7 @@ impl fmt::Display for MakeReason {
                 row,
             } => {
                 let line = WordLine(*pc, Some(*word));
-                let wanted = row_wanted(*row);
+                let wanted = RowLines(*row);
                 write!(f, "{line}  that is {listing}\n{wanted}")
             }
             MakeReason::Empty { place, lo, hi } => write!(f, "{}", EmptyLines(*place, *lo, *hi)),
