@@ -7,10 +7,10 @@ use Rattle.clap.specs.Words.{fault_of, kind_of}
 use Rattle.clap.specs.declared.error.kind.ErrorKind.{ErrorKind}
 use Rattle.command_line.specs.Asked.{is_help, is_request, status_of_line}
 use Rattle.commands.specs.Ending.{Ends}
-use Rattle.command_line.specs.Program.{Does, IsAsAsked, IsRefusal, IsSilent, IsStatusFor, IsUntouched, Stops, explains}
+use Rattle.command_line.specs.Program.{Does, IsAsAsked, IsHeard, IsRefusal, IsRefusalTold, IsSilent, IsStatusFor, IsUntouched, Stops, explains}
 use Rattle.command_line.specs.Line.{IsFaultIn, IsFaultOf, IsLineOf, app}
 use Rattle.commands.specs.Files.{Files}
-use Rattle.commands.specs.Streams.{Exchange, IsTold, Stream}
+use Rattle.commands.specs.Streams.{Exchange, Input, IsTold, Stream}
 use Rattle.command_line.specs.declared.line.asked.Line.{Line}
 use Rattle.command_line.specs.declared.line.asked.Line.TheVariants as ask
 use Rattle.clap.specs.Words.{Text}
@@ -81,12 +81,14 @@ pub fits_any : (words : List Text) (line : Line) (cut : Type 0) (s : Status) →
 fits_any words line cut s is = subst (λ (kinds : Kinds). IsStatusFor kinds cut s) (sym (faultless words line is)) tt
 
 -- files that stay as they are
-pub untouched : (kinds : Kinds) (held : Option Held) (e : Exchange) → e.after ≡ e.before → IsUntouched kinds held held e
-untouched [] held e unread = tt
-untouched (k ∷ ks) held e unread = (refl, unread)
+pub untouched : (kinds : Kinds) (held : Option Held) (input : Option Input) (e : Exchange)
+    → e.after ≡ e.before → IsUntouched kinds held held input input e
+untouched [] held input e unread = tt
+untouched (k ∷ ks) held input e unread = (refl, refl, unread)
 
-pub touched : (words : List Text) (line : Line) (was has : Option Held) (e : Exchange) → IsLineOf words line → IsUntouched (fault_of app words) was has e
-touched words line was has e is = subst (λ (kinds : Kinds). IsUntouched kinds was has e) (sym (faultless words line is)) tt
+pub touched : (words : List Text) (line : Line) (was has : Option Held) (old new : Option Input) (e : Exchange)
+    → IsLineOf words line → IsUntouched (fault_of app words) was has old new e
+touched words line was has old new e is = subst (λ (kinds : Kinds). IsUntouched kinds was has old new e) (sym (faultless words line is)) tt
 
 -- nothing that is printed
 silent : (kinds : Kinds) (e : Exchange) (s : Status) → e.has ≡ e.had → IsSilent kinds e s
@@ -95,31 +97,46 @@ silent (k ∷ ks) e status.Usage is = is
 silent (k ∷ ks) e status.Done is = tt
 silent (k ∷ ks) e status.Refused is = tt
 silent (k ∷ ks) e status.File is = tt
-silent (k ∷ ks) e status.Memory is = tt
+silent (k ∷ ks) e status.Memory is = is
 silent (k ∷ ks) e status.Stopped is = tt
 
 -- a fault is told on standard error alone
 pub silent_for : (kinds : Kinds) (error : LineError) (e : Exchange) (cut : Type 0) (s : Status)
-    → (is_request error ≡ false → e.has ≡ e.had) → (is_request error ≡ true → Answers cut s) → IsSilent kinds e s
-silent_for [] error e cut s quiet answered = tt
-silent_for (k ∷ ks) error e cut s quiet answered = go (is_request error) refl
+    → (is_request error ≡ false → e.has ≡ e.had) → (s ≡ status.Memory → e.has ≡ e.had)
+    → (is_request error ≡ true → Answers cut s) → IsSilent kinds e s
+silent_for [] error e cut s quiet kept answered = tt
+silent_for (k ∷ ks) error e cut s quiet kept answered = go (is_request error) refl
   where
     go : (b : Bool) → is_request error ≡ b → IsSilent (k ∷ ks) e s
     go false is = silent (k ∷ ks) e s (quiet is)
     go true is = elim (answered is) as (λ _. IsSilent (k ∷ ks) e s) [
       | inl done ↦ subst (λ (t : Status). IsSilent (k ∷ ks) e t) (sym done) tt
       | inr (inl file) ↦ subst (λ (t : Status). IsSilent (k ∷ ks) e t) (sym file.0) tt
-      | inr (inr memory) ↦ subst (λ (t : Status). IsSilent (k ∷ ks) e t) (sym memory) tt
+      | inr (inr memory) ↦ subst (λ (t : Status). IsSilent (k ∷ ks) e t) (sym memory) (kept memory)
     ]
 
 pub silent_any : (words : List Text) (line : Line) (e : Exchange) (s : Status) → IsLineOf words line → IsSilent (fault_of app words) e s
 silent_any words line e s is = subst (λ (kinds : Kinds). IsSilent kinds e s) (sym (faultless words line is)) tt
 
+-- what standard error has of refused words
+pub refusal_for : (kinds : Kinds) (told tells : Stream) (s : Status) → (s ≡ status.Memory → IsTold told tells (stop_text stop.Memory))
+    → (s ≡ status.Done → tells ≡ told) → IsRefusalTold kinds told tells s
+refusal_for [] told tells s memory done = tt
+refusal_for (k ∷ ks) told tells status.Memory memory done = memory refl
+refusal_for (k ∷ ks) told tells status.Done memory done = done refl
+refusal_for (k ∷ ks) told tells status.Usage memory done = tt
+refusal_for (k ∷ ks) told tells status.Refused memory done = tt
+refusal_for (k ∷ ks) told tells status.File memory done = tt
+refusal_for (k ∷ ks) told tells status.Stopped memory done = tt
+
+pub refusal_any : (words : List Text) (line : Line) (told tells : Stream) (s : Status) → IsLineOf words line → IsRefusalTold (fault_of app words) told tells s
+refusal_any words line told tells s is = subst (λ (kinds : Kinds). IsRefusalTold kinds told tells s) (sym (faultless words line is)) tt
+
 -- what a subcommand that the words name does, or a fault of theirs
 pub asked_for : (files : Files) (words : List Text) (line : Line) (e : Exchange) (was has : Option Held) (told tells : Stream) (s : Status)
-    → IsLineOf words line → Ends (explains line) (Does files line e was has) (Stops files line e was has) told tells s
+    → IsLineOf words line → IsHeard line e → Ends (explains line) (Does files line e was has) (Stops files line e was has) told tells s
     → IsAsAsked files words e was has told tells s
-asked_for files words line e was has told tells s is ends none = inr (line, is, ends)
+asked_for files words line e was has told tells s is heard ends none = inr (line, is, heard, ends)
 
 -- the status where memory ran out
 memory_is : (s : Status) → (s ≡ status.Memory) ⊎ (s ≡ status.Memory) → s ≡ status.Memory
@@ -128,10 +145,11 @@ memory_is s (inr is) = is
 
 pub asked_nothing : (files : Files) (words : List Text) (error : LineError) (e : Exchange) (was has : Option Held) (told tells : Stream) (s : Status)
     → has ≡ was → e.after ≡ e.before → IsFaultOf words error → (is_request error ≡ false → (s ≡ status_of_line error) ⊎ (s ≡ status.Memory))
-    → (error ≡ line_error.NoMemory → e.has ≡ e.had) → (error ≡ line_error.NoMemory → IsTold told tells (stop_text stop.Memory))
+    → (error ≡ line_error.NoMemory → e.has ≡ e.had) → (s ≡ status.Memory → IsTold told tells (stop_text stop.Memory))
     → IsAsAsked files words e was has told tells s
 asked_nothing files words (line_error.Usage error) e was has told tells s kept unread fits status quiet memory none =
     absurd (subst (λ (kinds : Kinds). IsAmong (kind_of error) kinds) none fits)
-asked_nothing files words line_error.NoMemory e was has told tells s kept unread fits status quiet memory none =
-    let line : IsTold told tells (stop_text stop.Memory ++ []) = rw (append-nil) (memory refl) in
-    inl (record { came = Err halt.Memory; comes = (refl, kept, (unread, quiet refl)); status = memory_is s (status refl); told = ([], inr refl, line) })
+asked_nothing files words line_error.NoMemory e was has told tells s kept unread fits came quiet memory none =
+    let is : s ≡ status.Memory = memory_is s (came refl) in
+    let line : IsTold told tells (stop_text stop.Memory ++ []) = rw (append-nil) (memory is) in
+    inl (record { came = Err halt.Memory; comes = (refl, kept, (unread, quiet refl)); status = is; told = ([], inr refl, line) })

@@ -1,5 +1,5 @@
 -- What the words say of how the program ends, and of what it does.
-use Rattle.std.specs.Prelude.{◌≡◌, ◌⊎◌, codes, Bool, ℕ, List, Option, not, true, false, []}
+use Rattle.std.specs.Prelude.{◌≡◌, ◌≤◌, ◌+◌, ◌⊎◌, codes, Bool, ℕ, List, Option, not, true, false, []}
 use Rattle.std.specs.List.{list_any}
 use Rattle.std.specs.declared.io.ErrorKind.{ErrorKind as IoErrorKind}
 use Rattle.std.specs.declared.io.ErrorKind.TheVariants.{OutOfMemory}
@@ -11,7 +11,7 @@ use Rattle.commands.specs.Files.{Files, OfTable, StopsOfTable}
 use Rattle.commands.specs.Makes.{Makes, StopsMake}
 use Rattle.commands.specs.Mons.{BeforeAll, Mons, StopsMon}
 use Rattle.commands.specs.Runs.{Runs, StopsRun}
-use Rattle.commands.specs.Streams.{Exchange, IsQuiet, Stream, Wrote, change}
+use Rattle.commands.specs.Streams.{Exchange, Input, IsQuiet, IsTold, Stream, Wrote, change}
 use Rattle.commands.specs.Tries.{StopsTry, Tries}
 use Rattle.commands.specs.Texts.{stop_text}
 use Rattle.commands.specs.Written.{Gains, Held}
@@ -40,16 +40,34 @@ abbrev pub IsStatusFor : Kinds → Type 0 → Status → Type 0
 IsStatusFor [] cut s = Unit {0}
 IsStatusFor kinds cut s = IsRefusal kinds cut s
 
--- where `clap` finds a fault in the words, no file is read or written, and the input is not read
-abbrev pub IsUntouched : Kinds → Option Held → Option Held → Exchange → Type 0
-IsUntouched [] was has e = Unit {0}
-IsUntouched kinds was has e = (has ≡ was) × (e.after ≡ e.before)
+-- where `clap` finds a fault in the words, no file is read or written, and the input is not read:
+-- `old` and `new` are the counts of reads of files
+abbrev pub IsUntouched : Kinds → Option Held → Option Held → Option Input → Option Input → Exchange
+    → Type 0
+IsUntouched [] was has old new e = Unit {0}
+IsUntouched kinds was has old new e = (has ≡ was) × (new ≡ old) × (e.after ≡ e.before)
 
--- and where that is told, nothing is printed on standard output
+-- and where that is told, or memory ran out, nothing is printed on standard output
 abbrev pub IsSilent : Kinds → Exchange → Status → Type 0
 IsSilent [] e s = Unit {0}
 IsSilent kinds e status.Usage = e.has ≡ e.had
+IsSilent kinds e status.Memory = e.has ≡ e.had
 IsSilent kinds e other = Unit {0}
+
+-- what standard error has: of want of memory that it is so, and of help and the version nothing
+abbrev pub IsRefusalTold : Kinds → Stream → Stream → Status → Type 0
+IsRefusalTold [] told tells s = Unit {0}
+IsRefusalTold kinds told tells status.Memory = IsTold told tells (stop_text stop.Memory)
+IsRefusalTold kinds told tells status.Done = tells ≡ told
+IsRefusalTold kinds told tells other = Unit {0}
+
+-- the input is read for `mon` alone, and not more often than this
+abbrev pub IsHeard : Line → Exchange → Type 0
+IsHeard (Check image explain) e = e.after ≡ e.before
+IsHeard (Run job explain registers) e = e.after ≡ e.before
+IsHeard (Try job explain registers) e = e.after ≡ e.before
+IsHeard (Mon job explain) e = e.after.reads ≤ e.before.reads + MOST_READS
+IsHeard (Make paths explain) e = e.after ≡ e.before
 
 -- what a command line's subcommand does with its paths: `e` is what is read and printed, and `was`
 -- and `has` are the files before and after
@@ -97,7 +115,7 @@ abbrev pub IsAsAsked : Files → List Text → Exchange → Option Held → Opti
     → Stream → Stream → Status → Type 0
 IsAsAsked files words e was has told tells s = fault_of app words ≡ []
     → Ends false (λ done. ⊥) (λ why. (why ≡ halt.Memory) × (has ≡ was) × IsQuiet e) told tells s
-    ⊎ ((line : Line) × IsLineOf words line
+    ⊎ ((line : Line) × IsLineOf words line × IsHeard line e
     × Ends (explains line) (Does files line e was has) (Stops files line e was has) told tells s)
 
 -- words that the system does not give: memory ran out, or they are not UTF-8

@@ -38,7 +38,9 @@ const MON_COMMANDS: &str = "Commands, one a line; A is a hexadecimal number, N a
   csr    shows pc, vl, vtype, vxrm, vxsat and vlenb
   m A N  shows N bytes from A on, 1 to 256
   l A N  lists N words from A on, 1 to 256
-  q      writes the out files and ends, as the end of the input does";
+  q      writes the out files and ends, as the end of the input does
+
+`rvvbox help` tells the statuses, and which documents have more.";
 
 /// What the help says of `--explain` and of `--registers`.
 const EXPLAIN: &str = "Tells more of why it stops";
@@ -83,6 +85,7 @@ fn path_command<'a>(
     let path = path_argument(alloc, id, shown, help);
     Command::new(alloc, name)
         .about(about)
+        .after_help(STATUSES)
         .arg(path)?
         .arg(flag(alloc, "explain", EXPLAIN))
 }
@@ -166,9 +169,11 @@ fn make_command<'a>(alloc: Global) -> Result<Command<'a>, AllocError>
     ensures shape { IfOk result (λ c. shape_of c ≡ make_shape) }
     ensures local { IfOk result (λ c. (fields_of c).has_globals ≡ false) }
 {
-    let bare = Command::new(alloc, "make").about(
-        "Makes a certificate of an image for a job's parameters, and writes the image with it",
-    );
+    let about =
+        "Makes a certificate of an image for a job's parameters, and writes the image with it";
+    let bare = Command::new(alloc, "make")
+        .about(about)
+        .after_help(STATUSES);
     let image = with_path(alloc, bare, "image", "IMAGE", "The image file")?;
     let job = with_path(alloc, image, "job", "JOB", "The job file")?;
     let out = with_path(alloc, job, "out", "OUT", "The image file that is written")?;

@@ -5,8 +5,8 @@ ghost use Rattle.std.specs.Prelude.{◌≡◌, map};
 ghost use Rattle.clap.specs.Words.{fault_of};
 ghost use Rattle.rv_listing.specs.Sinks.{IsCounted};
 ghost use Rattle.command_line.specs.Line.{app};
-ghost use Rattle.command_line.specs.Program.{Does, IsAsAsked, IsSilent, IsStatusFor};
-ghost use Rattle.command_line.specs.Program.{IsUntouched, Stops, explains};
+ghost use Rattle.command_line.specs.Program.{Does, IsAsAsked, IsHeard, IsRefusalTold, IsSilent};
+ghost use Rattle.command_line.specs.Program.{IsStatusFor, IsUntouched, Stops, explains};
 ghost use Rattle.command_line.specs.Program.{status_without_words, text_without_words};
 ghost use Rattle.commands.specs.Ending.{Ends, code_of};
 ghost use Rattle.commands.specs.Files.{files_of};
@@ -64,7 +64,7 @@ pub fn perform<'a, S: Store, I: Source, O: Stream, E: Sink>(
     ensures status { IsStatusFor (fault_of app (map (λ w. w.now) words.entry.now))
         (IsCounted (O.failures output.old) (O.failures output.new)) result.status }
     ensures untouched { IsUntouched (fault_of app (map (λ w. w.now) words.entry.now))
-        (S.held store.old) (S.held store.new)
+        (S.held store.old) (S.held store.new) (S.input store.old) (S.input store.new)
         (exchange
         (source (I.remaining input.old) (I.reads input.old) (I.failures input.old))
         (source (I.remaining input.new) (I.reads input.new) (I.failures input.new))
@@ -76,6 +76,9 @@ pub fn perform<'a, S: Store, I: Source, O: Stream, E: Sink>(
         (source (I.remaining input.new) (I.reads input.new) (I.failures input.new))
         (stream (O.contents output.old) (O.failures output.old))
         (stream (O.contents output.new) (O.failures output.new))) result.status }
+    ensures refusal { IsRefusalTold (fault_of app (map (λ w. w.now) words.entry.now))
+        (stream (E.contents errors.old) (E.failures errors.old))
+        (stream (E.contents errors.new) (E.failures errors.new)) result.status }
     ensures asked { IsAsAsked (files_of (S.held store.old)) (map (λ w. w.now) words.entry.now)
         (exchange
         (source (I.remaining input.old) (I.reads input.old) (I.failures input.old))
@@ -105,7 +108,12 @@ fn carry_out<'a, S: Store, I: Source, O: Stream, E: Sink>(
     output: &mut O,
     errors: &mut E,
 ) -> Status
-    ensures { let e = (exchange
+    ensures heard { IsHeard asked.entry (exchange
+        (source (I.remaining input.old) (I.reads input.old) (I.failures input.old))
+        (source (I.remaining input.new) (I.reads input.new) (I.failures input.new))
+        (stream (O.contents output.old) (O.failures output.old))
+        (stream (O.contents output.new) (O.failures output.new))) }
+    ensures ends { let e = (exchange
         (source (I.remaining input.old) (I.reads input.old) (I.failures input.old))
         (source (I.remaining input.new) (I.reads input.new) (I.failures input.new))
         (stream (O.contents output.old) (O.failures output.old))
@@ -137,7 +145,8 @@ fn carry_out<'a, S: Store, I: Source, O: Stream, E: Sink>(
 pub fn end_without_words<E: Sink>(error: io::Error, errors: &mut E) -> Ended
     ensures status { result.status ≡ status_without_words (error_kind error) }
     ensures told { IsTold (stream (E.contents errors.old) (E.failures errors.old))
-        (stream (E.contents errors.new) (E.failures errors.new)) (text_without_words result.status) }
+        (stream (E.contents errors.new) (E.failures errors.new))
+        (text_without_words result.status) }
 {
     match error.kind() {
         ErrorKind::OutOfMemory => Ended {

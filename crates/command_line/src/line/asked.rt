@@ -73,9 +73,15 @@ impl LineError {
         ensures quiet { is_request self.now ≡ false →
             stream (O.contents output.new) (O.failures output.new)
             ≡ stream (O.contents output.old) (O.failures output.old) }
-        ensures memory { self.now ≡ NoMemory →
+        ensures kept { result ≡ Status.Memory →
+            stream (O.contents output.new) (O.failures output.new)
+            ≡ stream (O.contents output.old) (O.failures output.old) }
+        ensures memory { result ≡ Status.Memory →
             IsTold (stream (E.contents errors.old) (E.failures errors.old))
             (stream (E.contents errors.new) (E.failures errors.new)) (stop_text stop.Memory) }
+        ensures done { result ≡ Status.Done →
+            stream (E.contents errors.new) (E.failures errors.new)
+            ≡ stream (E.contents errors.old) (E.failures errors.old) }
     {
         let LineError::Usage(error) = self else {
             return Stop::Memory.tell(errors);
