@@ -19,6 +19,17 @@ def names(place, of):
     return set(re.findall(rf'\b{of}::(\w+)(?:\(_\))? => "\1"', (ROOT / 'crates' / place).read_text()))
 
 
+# The documents' tables of these names: the page, its heading, and the enum.
+LISTED = [('IMAGES.md', 'Errors', 'ElfError'), ('CERTIFICATES.md', 'Errors', 'CertError'), ('MONITOR.md', 'Commands', 'MonError')]
+
+
+def listed(page, heading):
+    """The names in the first column of a table of a document, which stands below this heading."""
+    section = re.search(rf'^## {heading}\n(.*?)(?=^## |\Z)', (ROOT / 'docs' / page).read_text(), re.S | re.M)[1]
+    # (The line above that of dashes is the table's head.)
+    return set(re.findall(r'^\| (?:`error: )?([A-Z]\w+)`? \|(?!.*\n\|-)', section, re.M)) - {'NoMemory'}
+
+
 class Reasons(unittest.TestCase):
     def test_the_page_is_what_is_printed(self):
         self.assertEqual((ROOT / 'docs/REASONS.md').read_text(), reasons.page())
@@ -31,6 +42,8 @@ class Reasons(unittest.TestCase):
         told = set(re.findall(r'`(?:(?:refused|job): )?([A-Z][a-z]\w+)(?: at HHHHHHHH)?`', told))
         # What `mon` prints goes to memory, where a write fails for want of it alone.
         silent = {'NoMemory', 'Write'}
+        for page, heading, of in LISTED:
+            self.assertEqual(listed(page, heading), errors[of] - silent, page)
         self.assertEqual({*set().union(*errors.values()), *told, 'file', 'out of steps'} - silent - set(reasons.reasons()), set())
 
     def test_a_case_takes_its_parts(self):
