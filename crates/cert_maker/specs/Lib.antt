@@ -4,3 +4,4 @@ pub mod Certificates
 pub mod Known
 pub mod Laws
 pub mod Make
+pub mod Refusal

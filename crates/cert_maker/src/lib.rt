@@ -7,6 +7,7 @@ mod instructions;
 mod laws;
 mod loops;
 mod making;
+mod refusal;
 
 pub use errors::MakeError;
 pub use laws::{
@@ -14,4 +15,5 @@ pub use laws::{
     pointers_move, pointers_return, reaches_end, returns_pass, rounds_end, splits_are,
 };
 pub use loops::{Head, Loop, Reading, loop_of};
-pub use making::{make, make_in};
+pub use making::{make, make_in, make_kept};
+pub use refusal::{LoopRow, MakeRefusal, Misfit};

@@ -4,6 +4,7 @@ ghost use Rattle.std.specs.List.{AllByRecursion};
 ghost use Rattle.cert_note.specs.Certificate.{FitsWords};
 ghost use Rattle.cert_maker.specs.Certificates.{certificate_of};
 ghost use Rattle.cert_maker.specs.Loops.{loop_of as loop_of_of};
+ghost use Rattle.cert_maker.specs.Refusal.{misfit_at};
 ghost use Rattle.cert_maker.specs.Make.{AreParameters, FitsAt, IsFor};
 ghost use Rattle.cert_maker.specs.declared.errors.MakeError.TheVariants.{NotALoopOfTheClass};
 ghost use Rattle.cert_maker.specs.declared.errors.MakeError.TheVariants.{NoMemory};
@@ -11,6 +12,7 @@ ghost use Rattle.cert_maker.specs.declared.errors.MakeError.TheVariants.{NoMemor
 use crate::building::blocks;
 use crate::errors::MakeError;
 use crate::loops::{Loop, loop_of};
+use crate::refusal::{MakeRefusal, misfit_at};
 use cert_note::{Certificate, Contents, Version};
 use elf_image::Image;
 use region_mem::{Param, Parameters};
@@ -92,6 +94,31 @@ fn read<A: Allocator>(image: &Image<A>, parameters: &Parameters) -> Result<(Loop
     loop_of(image, parameters)
 }
 
+/// As [`make`], with the certificate's memory from any allocator; where the words are no loop of the class, with what is
+/// known of the first that does not fit.
+pub fn make_kept<A: Allocator, B: Allocator>(
+    alloc: A,
+    image: &Image<B>,
+    parameters: &Parameters,
+    vlen: Vlen,
+) -> Result<Certificate<A>, MakeRefusal>
+    ensures { MatchResult (loop_of_of image.now parameters.now)
+        (λ through. MatchResult result
+        (λ c. c ≡ certificate_of image.now parameters.now vlen through.0 through.1)
+        (λ refusal. refusal ≡ MakeRefusal.NoMemory))
+        (λ address. result ≡ Err (MakeRefusal.Misfit (misfit_at image.now address))) }
+{
+    match read(image, parameters) {
+        Ok((of, words)) => {
+            if !are_valid(parameters) {
+                return Err(MakeRefusal::NoMemory);
+            }
+            Ok(certificate(alloc, image, parameters, vlen, &of, words)?)
+        }
+        Err(address) => Err(MakeRefusal::Misfit(misfit_at(image, address))),
+    }
+}
+
 /// As [`make`], with the certificate's memory from any allocator.
 pub fn make_in<A: Allocator, B: Allocator>(
     alloc: A,
@@ -105,14 +132,9 @@ pub fn make_in<A: Allocator, B: Allocator>(
         (λ e. e ≡ NoMemory))
         (λ address. result ≡ Err (NotALoopOfTheClass address)) }
 {
-    match read(image, parameters) {
-        Ok((of, words)) => {
-            if !are_valid(parameters) {
-                return Err(MakeError::NoMemory);
-            }
-            Ok(certificate(alloc, image, parameters, vlen, &of, words)?)
-        }
-        Err(address) => Err(MakeError::NotALoopOfTheClass(address)),
+    match make_kept(alloc, image, parameters, vlen) {
+        Ok(certificate) => Ok(certificate),
+        Err(refusal) => Err(refusal.error()),
     }
 }
 

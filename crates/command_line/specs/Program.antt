@@ -7,20 +7,22 @@ use Rattle.command_line.specs.Words.{Check, Kinds, Line, Make, Mon, Run, Try}
 use Rattle.clap.specs.Words.{Text, fault_of}
 use Rattle.commands.specs.Checks.{Checks, StopsCheck}
 use Rattle.commands.specs.Ending.{Ends}
-use Rattle.commands.specs.Files.{Files, OfTable, StopsOfTable}
+use Rattle.commands.specs.Files.{OfTable, StopsOfTable}
+use Rattle.file_store.specs.Store.{Files}
 use Rattle.commands.specs.Makes.{Makes, StopsMake}
 use Rattle.commands.specs.Mons.{BeforeAll, Mons, StopsMon}
 use Rattle.commands.specs.Runs.{Runs, StopsRun}
-use Rattle.commands.specs.Streams.{Exchange, Input, IsQuiet, IsTold, Stream, Wrote, change}
+use Rattle.commands.specs.Streams.{Exchange, IsQuiet, IsTold, Stream, Wrote, change}
+use Rattle.file_store.specs.Sources.{Input}
 use Rattle.commands.specs.Tries.{StopsTry, Tries}
 use Rattle.commands.specs.Texts.{stop_text}
-use Rattle.commands.specs.Written.{Gains, Held}
+use Rattle.file_store.specs.Written.{Gains, Held}
 use Rattle.commands.specs.declared.did.Did.{Did}
 use Rattle.commands.specs.declared.stop.Status.{Status}
 use Rattle.commands.specs.declared.halt.Halt.{Halt}
 use Rattle.commands.specs.declared.halt.Halt.TheVariants as halt
 use Rattle.commands.specs.declared.stop.Stop.TheVariants as stop
-use Rattle.commands.specs.declared.store.TheConstants.{MOST_READS}
+use Rattle.file_store.specs.declared.store.TheConstants.{MOST_READS}
 use Rattle.command_line.specs.Asked.{is_help}
 use Rattle.job_reasons.specs.declared.job.Command.TheVariants as command
 use Rattle.command_line.specs.Line.{IsLineOf, app}

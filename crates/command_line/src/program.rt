@@ -3,14 +3,15 @@ ghost use Rattle.std.specs.IoError.{error_kind};
 ghost use Rattle.std.specs.Process.{exit_status};
 ghost use Rattle.std.specs.Prelude.{◌≡◌, map};
 ghost use Rattle.clap.specs.Words.{fault_of};
-ghost use Rattle.rv_listing.specs.Sinks.{IsCounted};
+ghost use Rattle.rv_listing.specs.Sinks.{IsCounted, IsPassedOn};
 ghost use Rattle.command_line.specs.Line.{app};
 ghost use Rattle.command_line.specs.Program.{Does, IsAsAsked, IsHeard, IsRefusalTold, IsSilent};
 ghost use Rattle.command_line.specs.Program.{IsStatusFor, IsUntouched, Stops, explains};
 ghost use Rattle.command_line.specs.Program.{status_without_words, text_without_words};
-ghost use Rattle.commands.specs.Ending.{Ends, code_of};
-ghost use Rattle.commands.specs.Files.{files_of};
-ghost use Rattle.commands.specs.Streams.{IsTold, exchange, source, stream};
+ghost use Rattle.commands.specs.Ending.{Ends, PassesOn, code_of};
+ghost use Rattle.file_store.specs.Store.{files_of};
+ghost use Rattle.commands.specs.Streams.{IsTold, exchange, stream};
+ghost use Rattle.file_store.specs.Sources.{source};
 
 use crate::line::asked::Line;
 use crate::line::line;
@@ -88,6 +89,8 @@ pub fn perform<'a, S: Store, I: Source, O: Stream, E: Sink>(
         (S.held store.old) (S.held store.new)
         (stream (E.contents errors.old) (E.failures errors.old))
         (stream (E.contents errors.new) (E.failures errors.new)) result.status }
+    ensures passed { IsPassedOn (O.passed output.old) (O.contents output.old)
+        → PassesOn result.status (O.passed output.new) (O.contents output.new) }
 {
     match line(alloc, words) {
         Ok(asked) => Ended {
@@ -123,6 +126,8 @@ fn carry_out<'a, S: Store, I: Source, O: Stream, E: Sink>(
         (Stops (files_of (S.held store.old)) asked.entry e (S.held store.old) (S.held store.new))
         (stream (E.contents errors.old) (E.failures errors.old))
         (stream (E.contents errors.new) (E.failures errors.new)) result }
+    ensures passed { IsPassedOn (O.passed output.old) (O.contents output.old)
+        → PassesOn result (O.passed output.new) (O.contents output.new) }
 {
     match asked {
         Line::Check { image, explain } => check_image(alloc, image, explain, store, output, errors),

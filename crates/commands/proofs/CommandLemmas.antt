@@ -1,5 +1,7 @@
 -- How a subcommand ends, from what was done and what was told.
-use Rattle.std.proofs.Common.{◌≡◌, ◌∙◌, ◌++◌, Bool, ℕ, List, [], Option, Some, option_map, Result, Ok, Err, IfOk, IfErr, IfSome, OnOk, MatchResult, ap, refl, sym, subst, inl, inr, None, unwrap_or}
+use Rattle.std.proofs.Common.{◌≡◌, ◌∙◌, ◌++◌, ◌⊎◌, ◌-◌, ◌^◌, ◌+◌, ◌<◌, Bool, false, true, ℕ, length, set, get_or, get_or-set_other, get_or-set_same, arith, List, [], Option, Some, option_map, Result, Ok, Err, IfOk, IfErr, IfSome, OnOk, MatchResult, ap, refl, sym, subst, inl, inr, None, unwrap_or}
+use Rattle.std.proofs.lemmas.Bool.{cases_lt}
+use Rattle.std.specs.Borrow.{Bor}
 use Rattle.std.specs.Str.{IsUtf8}
 use Rattle.std.specs.Result.{IsErrAnd}
 use Rattle.std.proofs.lemmas.Result.{MatchResult-weaker}
@@ -7,29 +9,35 @@ use Rattle.block_checker.specs.Accepted.{AcceptedView}
 use Rattle.job_file.specs.Job.{IsTableFault, Text}
 use Rattle.job_file.specs.declared.values.JobError.{JobError}
 use Rattle.job_file.specs.declared.values.JobError.TheVariants as job_error
-use Rattle.job_file.specs.Needs.{RunJob}
+use Rattle.job_file.specs.Needs.{RunJob, run_param_lent}
 use Rattle.job_reasons.specs.declared.job.Command.{Command}
 use Rattle.job_file.specs.declared.values.MakeJob.{MakeJob}
 use Rattle.job_file.specs.declared.values.RunParam.{RunParam}
+use Rattle.job_file.specs.declared.values.RunParam.TheVariants as given
+use Rattle.region_mem.specs.declared.arguments.Arg.TheVariants as argument
 use Rattle.rv_listing.specs.Sinks.{Told}
 use Rattle.toml.specs.Data.{Members}
 use Rattle.toml.specs.Parse.{parse_document}
 use Rattle.commands.specs.Accepted.{IsOrWant}
 use Rattle.commands.specs.Did.{did_of}
-use Rattle.commands.specs.Ending.{Ends, IsMore, Tells, more_if, plain, status_after, stop_of_job}
-use Rattle.commands.specs.Files.{ArePassed, Files, IsImageAt, IsNoImageAt, IsNoTable, IsUnfinished, IsUnpassed, IsUnwritten, files_of, image_in, outs_of}
+use Rattle.commands.specs.Ending.{Ends, IsMore, Tells, more_if, plain, status_after, status_of, stop_of_job}
+use Rattle.commands.specs.Files.{ArePassed, IsImageAt, IsImageOfFirst, IsNoImageAt, IsNoTable, IsUnfinished, IsUnpassed, IsUnwritten, image_in, outs_of}
+use Rattle.file_store.specs.Store.{Files, files_of}
 use Rattle.commands.specs.Halt.{bare, stop_of}
 use Rattle.commands.specs.Makes.{◌>>=◌, made_for, made_of}
 use Rattle.commands.specs.Starts.{IsStarted, IsUnstarted, StopsStarting}
 use Rattle.commands.specs.Steps.{IsUnasked}
 use Rattle.commands.specs.Streams.{Change, IsTold, Prints, Stream, Wrote, change, stream}
+use Rattle.commands.specs.Files.{IsFirstOf}
+use Rattle.file_store.specs.System.{IsFirst, Known}
 use Rattle.commands.specs.Trial.{OrMemory, StopsAtTrial, line_of, shown_of, told_of}
 use Rattle.commands.specs.Why.{ExplainsImage}
 use Rattle.commands.specs.Words.{Argument, Halt, ImageView}
-use Rattle.commands.specs.Written.{Gains, Held, Written}
+use Rattle.file_store.specs.Written.{Gains, Held, Written}
 use Rattle.commands.specs.declared.did.Did.{Did}
 use Rattle.commands.specs.declared.stands.Stand.{Stand}
 use Rattle.commands.specs.declared.stop.Status.{Status}
+use Rattle.commands.specs.declared.stop.Status.TheVariants as status
 use Rattle.commands.specs.declared.stop.Stop.{Stop}
 use Rattle.commands.specs.declared.stop.Stop.TheVariants as stop
 use Rattle.commands.specs.declared.trial.Trial.{Trial}
@@ -48,6 +56,32 @@ pub ends_by : {explains : Bool} {old new : Stream} {s : Status} {does : Did → 
     → Tells explains came old new → MatchResult came did stopped
     → ((done : Did) → did done → does done) → ((why : Halt) → stopped why → stops why) → Ends explains does stops old new s
 ends_by came did stopped says tells comes so why = ends_as came says tells (MatchResult-weaker came comes so why)
+
+-- the statuses of what was done
+abbrev pub is_done : Status → Bool
+is_done status.Done = true
+is_done status.Stopped = true
+is_done other = false
+
+pub undone : (reason : Stop) → is_done (status_of reason) ≡ false
+undone (stop.Job error) = refl
+undone (stop.File path) = refl
+undone (stop.Image error) = refl
+undone stop.NoCertificate = refl
+undone (stop.Certificate error) = refl
+undone (stop.Check error) = refl
+undone (stop.Make error) = refl
+undone (stop.Open error) = refl
+undone stop.Memory = refl
+undone stop.Output = refl
+
+-- what holds of what was done holds where the status is one of these
+pub did_so : {fact : Type 0} (came : Result Did Halt) (s : Status) → s ≡ status_after (plain came) → OnOk came fact
+    → (s ≡ status.Done) ⊎ (s ≡ status.Stopped) → fact
+did_so (Ok did) s same is ended = is
+did_so (Err why) s same is ended =
+    let done : is_done s ≡ true = elim ended [ inl at ↦ ap is_done at | inr at ↦ ap is_done at ] in
+    absurd (let both : true ≡ false = sym done ∙ (ap is_done same ∙ undone (stop_of why)) in cc)
 
 -- what was written is told, or cut
 pub told_on : {E : Type 0} (r : Result (Unit {0}) E) (old new : Option (List ℕ)) (before now : ℕ) (text : List ℕ) → Told r old new before now text
@@ -110,6 +144,14 @@ image_read files path had file (Ok image) same there is told =
     (file, subst (files.holds path) (sym same) there, or_ok (image_in file) image is)
 image_read files path had file (Err why) same there is told = inr (file, subst (files.holds path) (sym same) there, (is, told))
 
+-- the same of the first bytes
+pub image_first : (known : Option Known) (path : Text) (most : ℕ) (had file : List ℕ) (result : Result ImageView Halt)
+    → file ≡ had → IsFirst known path most had ⊎ IsFirst known path (2 ^ 64 - 1) had → OrMemory (image_in file) (bare result)
+    → IfOk result (IsImageOfFirst known path most)
+image_first known path most had file (Ok image) same first is =
+    record { bytes = had; first = first; spells = or_ok (image_in had) image (subst (λ (f : List ℕ). OrMemory (image_in f) (Ok image)) same is) }
+image_first known path most had file (Err why) same first is = tt
+
 -- ---- what a table asks for: `o` is what the program has of it
 
 pub unasked : {J K : Type 0} (view : J → K) (o : Option J) (asked : Option K) (reason : Stop) → option_map view o ≡ asked
@@ -124,6 +166,25 @@ pub asked_for : {J K : Type 0} (view : J → K) (o : Option J) (asked : Option K
 asked_for view o asked job is some = sym is ∙ ap (option_map view) some
 
 -- ---- what is known of a store, after what only read it
+
+pub first_now : (a b : Option Known) (most : ℕ) (param : RunParam Text) (arg : Argument) → b ≡ a → IsFirstOf b most param arg → IsFirstOf a most param arg
+first_now a b most param arg same is = subst (λ (k : Option Known). IsFirstOf k most param arg) same is
+
+-- of one place more the first bytes are passed
+pub first_more : (known : Option Known) (most : ℕ) (params : List (RunParam (Bor Text))) (places : List Argument) (place : ℕ) (arg : Argument) → place < length places
+    → ((j : ℕ) → j < place → IsFirstOf known most (run_param_lent (get_or params j given.None)) (get_or places j argument.None))
+    → IsFirstOf known most (run_param_lent (get_or params place given.None)) arg
+    → (k : ℕ) → k < place + 1 → IsFirstOf known most (run_param_lent (get_or params k given.None)) (get_or (set places place arg) k argument.None)
+first_more known most params places place arg within before here k below = elim (cases_lt k place) [
+  | inl less ↦
+      let same = get_or-set_other places place k arg argument.None (λ (is : k ≡ place). omega (arith, less, is)) in
+      subst (λ (a : Argument). IsFirstOf known most (run_param_lent (get_or params k given.None)) a) (sym same) (before k less)
+  | inr last ↦
+      let is : k ≡ place = omega (arith, below, last) in
+      let same = get_or-set_same places place arg argument.None within in
+      subst (λ (j : ℕ). IsFirstOf known most (run_param_lent (get_or params j given.None)) (get_or (set places place arg) j argument.None)) (sym is)
+      (subst (λ (a : Argument). IsFirstOf known most (run_param_lent (get_or params place given.None)) a) (sym same) here)
+]
 
 pub passed_after : (a b : Option Held) (given params : List (RunParam Text)) (args : List Argument) → b ≡ a → given ≡ params
     → ArePassed (files_of b) given args → ArePassed (files_of a) params args

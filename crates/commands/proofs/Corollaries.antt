@@ -11,41 +11,23 @@ use Rattle.commands.specs.Words.{Argument, Halt, Members}
 use Rattle.commands.specs.Checks.{Checks, StopsCheck}
 use Rattle.commands.specs.Corollary.{AreGiven, IsBoundOf, IsGiven, IsMadeOf, IsRunOf, IsTrialOf, IsWatchOf}
 use Rattle.commands.specs.Did.{did_of, status_with}
-use Rattle.commands.specs.Ending.{Ends, plain, status_after, status_of, status_of_end}
-use Rattle.commands.specs.Files.{ArePassed, IsPassed, OfTable, StopsOfTable, bytes_at, files_of}
+use Rattle.commands.specs.Ending.{Ends, plain, status_after, status_of_end}
+use Rattle.commands.specs.Files.{ArePassed, IsPassed, OfTable, StopsOfTable}
+use Rattle.file_store.specs.Store.{bytes_at, files_of}
 use Rattle.commands.specs.Halt.{stop_of}
 use Rattle.commands.specs.Makes.{Makes, StopsMake}
 use Rattle.commands.specs.Mons.{Mons}
 use Rattle.commands.specs.Runs.{Runs, StopsRun}
 use Rattle.commands.specs.Tries.{StopsTry, Tries, passed_by}
 use Rattle.commands.specs.Streams.{Change, Exchange, Stream, Wrote, change, stream}
-use Rattle.commands.specs.Written.{Gains, Held}
+use Rattle.file_store.specs.Written.{Gains, Held}
 use Rattle.commands.specs.declared.did.Did.{Did}
+use Rattle.commands.proofs.CommandLemmas.{is_done, undone}
 use Rattle.commands.specs.declared.stands.Stand.{Stand}
 use Rattle.commands.specs.declared.stop.Status.{Status}
 use Rattle.commands.specs.declared.stop.Status.TheVariants as status
-use Rattle.commands.specs.declared.stop.Stop.{Stop}
-use Rattle.commands.specs.declared.stop.Stop.TheVariants as stop
 use Rattle.commands.specs.declared.trial.End.{End}
 use Rattle.commands.specs.declared.trial.End.TheVariants as end
-
--- the statuses of what was done
-abbrev is_done : Status → Bool
-is_done status.Done = true
-is_done status.Stopped = true
-is_done other = false
-
-undone : (reason : Stop) → is_done (status_of reason) ≡ false
-undone (stop.Job error) = refl
-undone (stop.File path) = refl
-undone (stop.Image error) = refl
-undone stop.NoCertificate = refl
-undone (stop.Certificate error) = refl
-undone (stop.Check error) = refl
-undone (stop.Make error) = refl
-undone (stop.Open error) = refl
-undone stop.Memory = refl
-undone stop.Output = refl
 
 -- A subcommand that ends with one of these does what it does.
 done_of : {explains : Bool} {does : Did → Type 0} {stops : Halt → Type 0} {told tells : Stream} {s : Status}

@@ -3,7 +3,6 @@ pub mod CommandLemmas
 pub mod Corollaries
 pub mod EscapedLemmas
 pub mod MonLemmas
-pub mod SourceLemmas
 pub mod TalkLemmas
 pub mod TrialLemmas
 pub mod WhyLemmas

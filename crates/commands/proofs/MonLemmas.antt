@@ -13,7 +13,8 @@ use Rattle.machine.specs.Machine.{Machine}
 use Rattle.vreg_groups.specs.declared.policies.Agnostic.{Agnostic}
 use Rattle.monitor.specs.declared.commands.Flow.TheVariants as flow
 use Rattle.commands.specs.Mons.{IsOfInput, IsStopped, IsUnanswered}
-use Rattle.commands.specs.Streams.{Exchange, IsUnread, Stream}
+use Rattle.commands.specs.Streams.{Exchange, Stream}
+use Rattle.file_store.specs.Sources.{IsUnread}
 use Rattle.commands.specs.Talks.{AreTold, GoesOver, IsBroken, IsCutOff, IsLine, Watch, joined}
 use Rattle.commands.specs.declared.stop.Stop.{Stop}
 use Rattle.commands.specs.declared.stop.Stop.TheVariants as stop
@@ -21,16 +22,17 @@ use Rattle.commands.proofs.TalkLemmas.{behind, consumes-more, prints-more, print
 
 pub stopped : (vlenb : ℕ) (agnostic : Agnostic) (max : ℕ) (a : AcceptedView) (args : List Argument) (fault : Option OpenError) (e : Exchange) (opened session : SessionView) (kept : List Argument)
     → open_fault vlenb a args max ≡ fault → IfSome fault (λ told. ⊥)
-    → IsOpened vlenb agnostic a args max opened → AreTold vlenb e opened session
+    → IsOpened vlenb agnostic a args max opened → AreTold vlenb e opened session → e.after.failures ≡ e.before.failures
     → session.first ≡ opened.first → IsStop vlenb session.first session.steps session.machine
     → kept ≡ args_of session.machine.memory → IsStopped vlenb agnostic max a args e kept
-stopped vlenb agnostic max a args (Some told) e opened session kept is none begins talks stays stop comes = absurd none
-stopped vlenb agnostic max a args None e opened session kept is none begins talks stays stop comes = record {
+stopped vlenb agnostic max a args (Some told) e opened session kept is none begins talks heard stays stop comes = absurd none
+stopped vlenb agnostic max a args None e opened session kept is none begins talks heard stays stop comes = record {
   opens = is;
   opened = opened;
   begins = begins;
   left = session;
   talks = talks;
+  heard = heard;
   stop = subst (λ (m : Machine). IsStop vlenb m session.steps session.machine) (stays ∙ begins.first ∙ begins.machine) stop;
   comes = comes;
 }

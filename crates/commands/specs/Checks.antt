@@ -3,7 +3,8 @@ use Rattle.std.specs.Prelude.{◌≡◌, ◌++◌, codes, ℕ, List, [], Some, N
 use Rattle.cert_note.specs.Values.{budget_text, product_text}
 use Rattle.cert_note.specs.declared.values.Budget.{Budget}
 use Rattle.commands.specs.Accepted.{accepted_of, certificate_in}
-use Rattle.commands.specs.Files.{Files, IsImageAt, IsNoImageAt}
+use Rattle.commands.specs.Files.{IsImageAt, IsNoImageAt}
+use Rattle.file_store.specs.Store.{Files}
 use Rattle.commands.specs.Halt.{stop_of}
 use Rattle.commands.specs.Steps.{StopsAt, StopsAtResult}
 use Rattle.commands.specs.Streams.{Change, Cuts, Prints, Wrote}

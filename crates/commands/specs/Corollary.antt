@@ -11,7 +11,8 @@ use Rattle.toml.specs.Parse.{parse_document}
 use Rattle.commands.specs.Accepted.{accepted_of}
 use Rattle.commands.specs.Checks.{IsBudget, bound_line}
 use Rattle.commands.specs.Ending.{status_of_end}
-use Rattle.commands.specs.Files.{bytes_at, image_in, outs_of}
+use Rattle.commands.specs.Files.{image_in, outs_of}
+use Rattle.file_store.specs.Store.{bytes_at}
 use Rattle.commands.specs.Makes.{accepted_in, made_of}
 use Rattle.commands.specs.Mons.{IsStopped}
 use Rattle.commands.specs.Runs.{run_of_job}

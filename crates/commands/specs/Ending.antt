@@ -1,6 +1,6 @@
 -- How the program ends: the reason to stop that each error is, the status of each reason, and each
 -- status as a number.
-use Rattle.std.specs.Prelude.{◌≡◌, ◌⊎◌, ◌++◌, Bool, false, true, ℕ, List, [], Result, Ok, Err, MatchResult}
+use Rattle.std.specs.Prelude.{◌≡◌, ◌⊎◌, ◌++◌, Bool, false, true, ℕ, List, [], Option, Result, Ok, Err, MatchResult}
 use Rattle.block_checker.specs.declared.errors.CheckError.TheVariants as check_error
 use Rattle.cert_maker.specs.declared.errors.MakeError.{MakeError}
 use Rattle.cert_maker.specs.declared.errors.MakeError.TheVariants as make_error
@@ -12,14 +12,15 @@ use Rattle.std.specs.Borrow.{Bor}
 use Rattle.std.specs.declared.io.ErrorKind.{ErrorKind as IoErrorKind}
 use Rattle.std.specs.declared.io.ErrorKind.TheVariants.{OutOfMemory}
 use Rattle.job_file.specs.declared.values.JobError.TheVariants as job_error
-use Rattle.commands.specs.declared.store.StoreError.{StoreError}
-use Rattle.commands.specs.declared.store.StoreError.TheVariants as store_error
+use Rattle.file_store.specs.declared.store.StoreError.{StoreError}
+use Rattle.file_store.specs.declared.store.StoreError.TheVariants as store_error
 use Rattle.commands.specs.declared.trial.End.{End}
 use Rattle.commands.specs.declared.trial.End.TheVariants as end
 use Rattle.commands.specs.Did.{did_text, status_with}
 use Rattle.commands.specs.Halt.{halt_text, stop_of}
 use Rattle.commands.specs.Texts.{stop_text}
 use Rattle.commands.specs.declared.did.Did.{Did}
+use Rattle.rv_listing.specs.Sinks.{IsPassedOn}
 use Rattle.commands.specs.Streams.{IsTold, Stream}
 use Rattle.commands.specs.declared.stop.Status.TheVariants as status
 use Rattle.commands.specs.declared.stop.Stop.TheVariants as stop
@@ -72,11 +73,6 @@ abbrev pub stop_of_open : OpenError → Stop
 stop_of_open open_error.NoMemory = stop.Memory
 stop_of_open error = stop.Open error
 
--- want of memory apart from all else that a file may meet
-abbrev pub store_error_of : IoErrorKind → StoreError
-store_error_of OutOfMemory = store_error.NoMemory
-store_error_of _ = store_error.Failed
-
 abbrev pub stop_at_file : StoreError → Bor (List ℕ) → Stop
 stop_at_file store_error.Failed path = stop.File path
 stop_at_file store_error.NoMemory path = stop.Memory
@@ -126,6 +122,10 @@ IsMore explains came more = (more ≡ more_if explains came) ⊎ (more ≡ [])
 abbrev pub Tells : Bool → Result Did Halt → Stream → Stream → Type 0
 Tells explains came old new = (more : List ℕ) × IsMore explains came more
     × IsTold old new (text_after (plain came) ++ more)
+
+-- where a subcommand did what it does, all that standard output has taken is passed on
+abbrev pub PassesOn : Status → Option (List ℕ) → Option (List ℕ) → Type 0
+PassesOn s passed taken = (s ≡ status.Done) ⊎ (s ≡ status.Stopped) → IsPassedOn passed taken
 
 -- a subcommand does what it does, or stops for one of its reasons, with what more is told of that:
 -- the status says which, and standard error tells why. `old` and `new` are what that has before and

@@ -1,5 +1,5 @@
 -- The files of a job: what is read before its run, and what is written after it.
-use Rattle.std.specs.Prelude.{if◌then◌else◌, ◌≡◌, ◌<◌, ◌⊎◌, Bool, false, true, ℕ, List, [], ◌∷◌, length, get_or, take, Option, Some, None, Result, Ok, Err}
+use Rattle.std.specs.Prelude.{if◌then◌else◌, ◌≡◌, ◌<◌, ◌-◌, ◌^◌, ◌⊎◌, Bool, false, true, ℕ, List, [], ◌∷◌, length, get_or, take, Option, Some, None, Result, Ok, Err}
 use Rattle.std.specs.List.{filter_map, zip}
 use Rattle.std.specs.Str.{IsUtf8, bytes_eq}
 use Rattle.elf_image.specs.Faults.{fault_of}
@@ -14,60 +14,14 @@ use Rattle.commands.specs.Accepted.{OrMemory}
 use Rattle.commands.specs.Ending.{IsOfFile, stop_of_image}
 use Rattle.commands.specs.Halt.{stop_of}
 use Rattle.commands.specs.Streams.{Change, Cuts, Wrote}
+use Rattle.file_store.specs.Store.{Files, if_failed, is_among, files_of, bytes_at, last_at}
+use Rattle.file_store.specs.System.{IsFirst, Known}
 use Rattle.commands.specs.Why.{ExplainsImage, ExplainsJob}
 use Rattle.commands.specs.Words.{Argument, ElfError, Gains, Halt, Held, ImageView, Members, Stop, Text, Written}
 use Rattle.commands.specs.declared.did.Did.{Did}
-use Rattle.commands.specs.declared.store.StoreError.{StoreError}
-use Rattle.commands.specs.declared.store.StoreError.TheVariants as store_error
+use Rattle.file_store.specs.declared.store.StoreError.{StoreError}
+use Rattle.file_store.specs.declared.store.StoreError.TheVariants as store_error
 use Rattle.commands.specs.declared.stop.Stop.TheVariants as stop
-
--- ---- what may come of the files at paths
-
--- the bytes that the file at a path may be read as, the errors with which it may not be read, and
--- those with which it may not be written
-pub record Files : Type 1 where
-  pub holds : Text → List ℕ → Type 0
-  pub unread : Text → StoreError → Type 0
-  pub unwritten : Text → StoreError → Type 0
-
--- the bytes of the last file at a path, or else these
-unfoldable pub last_at : Text → Written → Option (List ℕ) → Option (List ℕ)
-last_at path [] found = found
-last_at path (file ∷ files) found =
-    last_at path files (if bytes_eq file.0 path then Some file.1 else found)
-
--- one of these paths
-unfoldable pub is_among : Text → List Text → Bool
-is_among path [] = false
-is_among path (p ∷ paths) = if bytes_eq p path then true else is_among path paths
-
--- the file at a path is none of those that can't be written, where these are known
-abbrev pub IsWritable : Option Held → Text → Type 0
-IsWritable None path = Unit {0}
-IsWritable (Some held) path = is_among path held.unwritten ≡ false
-
--- what is read at a path
-abbrev pub bytes_at : Held → Text → Option (List ℕ)
-bytes_at held path = if is_among path held.unread then None else last_at path held.files None
-
--- memory may run out at any file
-abbrev pub if_failed : StoreError → Type 0 → Type 0
-if_failed store_error.Failed fact = fact
-if_failed store_error.NoMemory fact = Unit {0}
-
--- what is there is read, what is not or can't be read is not, and what can't be written is not;
--- where it is not known what is held, anything may come
-abbrev pub files_of : Option Held → Files
-files_of None = record {
-  holds = λ _ _. Unit {0};
-  unread = λ _ _. Unit {0};
-  unwritten = λ _ _. Unit {0};
-}
-files_of (Some held) = record {
-  holds = λ path bytes. bytes_at held path ≡ Some bytes;
-  unread = λ path error. if_failed error (bytes_at held path ≡ None);
-  unwritten = λ path error. if_failed error (is_among path held.unwritten ≡ true);
-}
 
 -- ---- what is read
 
@@ -83,6 +37,17 @@ abbrev pub ArePassed : Files → List (RunParam Text) → List Argument → Type
 ArePassed files params args =
     (length args ≡ 8) × ((k : ℕ) → k < 8
     → IsPassed files (get_or params k given.None) (get_or args k argument.None))
+
+-- the same of the file of a place, where it passes one
+abbrev pub IsFirstOf : Option Known → ℕ → RunParam (List ℕ) → Argument → Type 0
+IsFirstOf files most (given.Buffer file out) arg =
+    (bytes : List ℕ) × IsFirst files file most bytes × (arg ≡ argument.Buffer bytes)
+IsFirstOf files most other arg = Unit {0}
+
+-- place by place
+abbrev pub AreFirst : Option Known → ℕ → List (RunParam (List ℕ)) → List Argument → Type 0
+AreFirst files most params args = (k : ℕ) → k < 8
+    → IsFirstOf files most (get_or params k given.None) (get_or args k argument.None)
 
 -- why what a job passes is not read: the file of a place is not, and those before it are
 abbrev pub IsOfParam : Files → RunParam Text → Stop → Type 0
@@ -106,6 +71,13 @@ image_in file = unless_fault (fault_of file) (image_of file)
 -- the file at a path spells this image
 abbrev pub IsImageAt : Files → Text → ImageView → Type 0
 IsImageAt files path image = (bytes : List ℕ) × files.holds path bytes × (image_in bytes ≡ Ok image)
+
+-- the image that the first bytes of a file spell: at most so many of them, or all
+pub record IsImageOfFirst (known : Option Known) (path : Text) (most : ℕ) (image : ImageView)
+    : Type 0 where
+  pub bytes : List ℕ
+  pub first : IsFirst known path most bytes ⊎ IsFirst known path (2 ^ 64 - 1) bytes
+  pub spells : image_in bytes ≡ Ok image
 
 -- why a file spells no image: it has a fault
 abbrev pub IsNoImage : List ℕ → Halt → Type 0

@@ -7,8 +7,8 @@ use Rattle.check_reasons.specs.Check.{check_text}
 use Rattle.elf_image.specs.Error as image_words
 use Rattle.explanations.specs.Certificate.{certificate_text}
 use Rattle.explanations.specs.Image.{image_text}
-use Rattle.explanations.specs.Loops.{loop_text}
-use Rattle.explanations.specs.Make.{make_text}
+use Rattle.make_reasons.specs.Loops.{loop_text}
+use Rattle.make_reasons.specs.Make.{make_text}
 use Rattle.explanations.specs.Refusal as refused
 use Rattle.job_file.specs.declared.values.JobError.TheVariants as job_error
 use Rattle.job_reasons.specs.Job.{job_text}
@@ -63,7 +63,7 @@ halt_text (halt.Parameters (Some reason)) = make_text reason.value
 halt_text (halt.File path None) = []
 halt_text (halt.File path (Some line)) = string_bytes line
 halt_text (halt.Image why) =
-    lines_of (image_words.error_text why.error) (λ kept. image_text kept.value) why.reason
+    lines_of (image_words.error_text why.error) (λ kept. image_text kept.value.0) why.reason
 halt_text (halt.Attach why) =
     lines_of (image_words.error_text why.error) (λ kept. make_text kept.value) why.reason
 halt_text halt.NoCertificate =

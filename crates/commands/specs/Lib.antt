@@ -6,7 +6,6 @@ pub mod Ending
 pub mod Files
 pub mod Halt
 pub mod Makes
-pub mod Memory
 pub mod Mons
 pub mod Reasoned
 pub mod Runs
@@ -14,12 +13,10 @@ pub mod Stands
 pub mod Starts
 pub mod Steps
 pub mod Streams
-pub mod System
 pub mod Talks
 pub mod Texts
 pub mod Trial
 pub mod Tries
 pub mod Why
 pub mod Words
-pub mod Written
 pub mod WrittenLemmas

@@ -18,7 +18,8 @@ use Rattle.region_mem.specs.declared.parameter.Param.{Param}
 use Rattle.commands.specs.Accepted.{IsOrWant, accepted_of}
 use Rattle.commands.specs.Checks.{IsBudget, IsUntold, bound_line}
 use Rattle.commands.specs.Ending.{IsOfFile}
-use Rattle.commands.specs.Files.{Files, IsNoImage, image_in, unless_fault}
+use Rattle.commands.specs.Files.{IsNoImage, image_in, unless_fault}
+use Rattle.file_store.specs.Store.{Files}
 use Rattle.commands.specs.Halt.{stop_of}
 use Rattle.commands.specs.Steps.{StopsAt, StopsAtJob, StopsAtResult}
 use Rattle.commands.specs.Streams.{Change, Prints, Wrote}

@@ -7,12 +7,14 @@ use Rattle.region_mem.specs.Memory.{args_of}
 use Rattle.sandbox_run.specs.Session.{IsOpened, SessionView, open_fault}
 use Rattle.sandbox_run.specs.Stops.{IsStop}
 use Rattle.commands.specs.Ending.{stop_of_open}
-use Rattle.commands.specs.Files.{Files, IsUnwritten, outs_of}
+use Rattle.commands.specs.Files.{IsUnwritten, outs_of}
+use Rattle.file_store.specs.Store.{Files}
 use Rattle.commands.specs.Halt.{stop_of}
 use Rattle.commands.specs.Runs.{ExplainsRun}
 use Rattle.commands.specs.Starts.{IsStarted, StopsStarting}
 use Rattle.commands.specs.Steps.{StopsAt}
-use Rattle.commands.specs.Streams.{Exchange, IsQuiet, IsUnread}
+use Rattle.commands.specs.Streams.{Exchange, IsQuiet}
+use Rattle.file_store.specs.Sources.{IsUnread}
 use Rattle.commands.specs.Talks.{AreTold, IsBroken, IsLastBroken, IsLeft, Watch, watch}
 use Rattle.commands.specs.Words.{AcceptedView, Agnostic, Argument, Gains, Halt, Held, Members, OpenError, start, Stop, Text, vlenb_of, Written}
 use Rattle.commands.specs.declared.did.Did.{Did}
@@ -21,8 +23,8 @@ use Rattle.commands.specs.declared.stop.Stop.TheVariants as stop
 
 -- ---- a job's run, stopped
 
--- a run of an accepted image is opened, the lines of the input are answered on it, and these are
--- the arguments as they stand where it is left, at a stop of it
+-- a run of an accepted image is opened, the lines of the input, of which no read failed, are
+-- answered on it, and these are the arguments as they stand where it is left, at a stop of it
 pub record IsStopped (vlenb : ℕ) (agnostic : Agnostic) (max : ℕ) (a : AcceptedView)
     (args : List Argument) (e : Exchange) (kept : List Argument) : Type 0 where
   pub opens : open_fault vlenb a args max ≡ None
@@ -30,6 +32,7 @@ pub record IsStopped (vlenb : ℕ) (agnostic : Agnostic) (max : ℕ) (a : Accept
   pub begins : IsOpened vlenb agnostic a args max opened
   pub left : SessionView
   pub talks : AreTold vlenb e opened left
+  pub heard : e.after.failures ≡ e.before.failures
   pub stop : IsStop vlenb (start vlenb agnostic a.image a.certificate.parameters args)
       left.steps left.machine
   pub comes : kept ≡ args_of left.machine.memory

@@ -6,7 +6,8 @@ use Rattle.job_reasons.specs.declared.job.Command.TheVariants as command
 use Rattle.sandbox_run.specs.Session.{open_fault}
 use Rattle.commands.specs.Did.{did_of}
 use Rattle.commands.specs.Ending.{stop_of_open}
-use Rattle.commands.specs.Files.{Files, outs_of}
+use Rattle.commands.specs.Files.{outs_of}
+use Rattle.file_store.specs.Store.{Files}
 use Rattle.commands.specs.Starts.{IsStarted, StopsStarting}
 use Rattle.commands.specs.Streams.{Change, Prints, Wrote}
 use Rattle.commands.specs.Trial.{StopsAtTrial, told_of, trial_from}

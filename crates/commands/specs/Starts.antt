@@ -4,7 +4,8 @@ use Rattle.job_file.specs.Needs.{run_job_in}
 use Rattle.job_file.specs.Needs.{RunJob}
 use Rattle.job_reasons.specs.declared.job.Command.{Command}
 use Rattle.commands.specs.Accepted.{accepted_of, certificate_in}
-use Rattle.commands.specs.Files.{ArePassed, Files, IsImageAt, IsNoImageAt, IsUnpassed}
+use Rattle.commands.specs.Files.{ArePassed, IsImageAt, IsNoImageAt, IsUnpassed}
+use Rattle.file_store.specs.Store.{Files}
 use Rattle.commands.specs.Halt.{stop_of}
 use Rattle.commands.specs.Steps.{StopsAt, StopsAtJob, StopsAtResult}
 use Rattle.commands.specs.Why.{ExplainsAccepted, ExplainsJob}

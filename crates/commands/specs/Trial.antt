@@ -12,7 +12,8 @@ use Rattle.machine.specs.declared.registers.Registers.{Registers}
 use Rattle.machine.specs.Run.{outcome}
 use Rattle.region_mem.specs.Digits.{digits_text}
 pub use Rattle.commands.specs.Accepted.{OrMemory}
-use Rattle.commands.specs.Files.{Files, IsUnfinished}
+use Rattle.commands.specs.Files.{IsUnfinished}
+use Rattle.file_store.specs.Store.{Files}
 use Rattle.commands.specs.Halt.{stop_of}
 use Rattle.commands.specs.Steps.{StopsAt}
 use Rattle.commands.specs.Streams.{Change, Wrote}

@@ -18,7 +18,8 @@ use Rattle.region_mem.specs.declared.parameter.Param.TheVariants as parameter
 use Rattle.sandbox_run.specs.Answer.{last_pc}
 use Rattle.sandbox_run.specs.Errors.{open_error_of}
 use Rattle.commands.specs.Did.{did_of}
-use Rattle.commands.specs.Files.{ArePassed, Files, IsImageAt, IsNoImageAt, IsUnpassed, outs_of}
+use Rattle.commands.specs.Files.{ArePassed, IsImageAt, IsNoImageAt, IsUnpassed, outs_of}
+use Rattle.file_store.specs.Store.{Files}
 use Rattle.commands.specs.Halt.{stop_of}
 use Rattle.commands.specs.Stands.{stand_line, stand_text}
 use Rattle.commands.specs.Steps.{StopsAt, StopsAtJob}

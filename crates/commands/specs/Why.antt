@@ -5,15 +5,19 @@ use Rattle.std.specs.Global.{Global}
 use Rattle.block_checker.specs.Explained.{Explains}
 use Rattle.cert_maker.specs.declared.errors.MakeError.{MakeError}
 use Rattle.cert_maker.specs.declared.errors.MakeError.TheVariants as make_error
+use Rattle.cert_maker.specs.declared.refusal.MakeRefusal.{MakeRefusal}
+use Rattle.cert_maker.specs.declared.refusal.MakeRefusal.TheVariants as make_refusal
+use Rattle.cert_maker.specs.Refusal.{error_of, misfit_at}
 use Rattle.check_reasons.specs.Check.{IsListed, IsWanted}
 use Rattle.check_reasons.specs.declared.check.CheckReason.{CheckReason}
 use Rattle.explanations.specs.Certificate.{IsReason}
-use Rattle.explanations.specs.Image.{Tells}
-use Rattle.explanations.specs.Loops.{IsLoopReason}
-use Rattle.explanations.specs.Make.{attach_reason, parameter_reason}
-use Rattle.explanations.specs.declared.loops.LoopReason.{LoopReason}
+use Rattle.elf_image.specs.Evidence.{evidence_of}
+use Rattle.elf_image.specs.declared.evidence.ElfRefusal.{ElfRefusal}
 use Rattle.job_reasons.specs.Job.{IsJobReason}
 use Rattle.job_reasons.specs.declared.job.Command.{Command}
+use Rattle.make_reasons.specs.Loops.{IsLoopReason}
+use Rattle.make_reasons.specs.Make.{attach_reason, parameter_reason}
+use Rattle.make_reasons.specs.declared.loops.LoopReason.{LoopReason}
 use Rattle.open_reasons.specs.Open.{reason_of}
 use Rattle.region_mem.specs.declared.parameter.Param.{Param}
 use Rattle.vreg_groups.specs.declared.vector_length.Vlen.{Vlen}
@@ -37,10 +41,17 @@ ExplainsJob command text other = Unit {0}
 
 -- ---- an image
 
+-- the error of a refusal, with what is known of the file
+abbrev pub TellsImage : ElfRefusal → Halt → Type 0
+TellsImage refusal (halt.Image why) = (why.error ≡ refusal.error)
+    × IfSome why.reason (λ kept. kept.value.0 ≡ refusal.evidence)
+TellsImage refusal (halt.Attach why) = ⊥
+TellsImage refusal other = Unit {0}
+
 -- why a file is no image
 abbrev pub ExplainsImage : List ℕ → Halt → Type 0
 ExplainsImage file (halt.Image why) =
-    IfSome why.reason (λ kept. Tells file why.error kept.value)
+    IfSome why.reason (λ kept. kept.value.0 ≡ evidence_of file why.error)
 ExplainsImage file (halt.Attach why) = ⊥
 ExplainsImage file other = Unit {0}
 
@@ -75,8 +86,20 @@ ExplainsAccepted vlen image =
 
 abbrev pub IsMakeReason : List Param → ImageView → MakeError → LoopReason → Type 0
 IsMakeReason params image (make_error.NotALoopOfTheClass pc) told =
-    IsLoopReason params image pc told
+    IsLoopReason params (misfit_at image pc) told
 IsMakeReason params image make_error.NoMemory told = ⊥
+
+-- the same by a refusal, with what is known of the word
+abbrev pub IsRefusalReason : List Param → MakeRefusal → LoopReason → Type 0
+IsRefusalReason params (make_refusal.Misfit misfit) told = IsLoopReason params misfit told
+IsRefusalReason params make_refusal.NoMemory told = ⊥
+
+abbrev pub TellsLoop : List Param → MakeRefusal → Halt → Type 0
+TellsLoop params refusal (halt.Parameters reason) = ⊥
+TellsLoop params refusal (halt.Make why) = (why.error ≡ error_of refusal)
+    × IfSome why.reason (λ kept. IsRefusalReason params refusal kept.value)
+TellsLoop params refusal (halt.Job reason) = ⊥
+TellsLoop params refusal other = Unit {0}
 
 -- why there is no certificate of the loop in an image for these parameters
 abbrev pub ExplainsLoop : List Param → ImageView → Halt → Type 0

@@ -18,4 +18,4 @@ pub use Rattle.toml.specs.Data.{Members}
 pub use Rattle.commands.specs.declared.halt.Halt.{Halt}
 pub use Rattle.commands.specs.declared.stop.Status.{Status}
 pub use Rattle.commands.specs.declared.stop.Stop.{Stop}
-pub use Rattle.commands.specs.Written.{Gains, Held, Written}
+pub use Rattle.file_store.specs.Written.{Gains, Held, Written}

@@ -5,10 +5,11 @@ use Rattle.std.specs.Borrow.{Bor}
 use Rattle.std.specs.List.{cons_option}
 use Rattle.job_file.specs.Job.{Text}
 use Rattle.job_file.specs.Needs.{run_param_lent}
-use Rattle.commands.specs.Files.{files_of, Files, IsOfParam, IsPassed, IsOutWritten, IsUnpassed, IsUnwritten, out_file, outs_of}
+use Rattle.commands.specs.Files.{IsOfParam, IsPassed, IsOutWritten, IsUnpassed, IsUnwritten, out_file, outs_of}
+use Rattle.file_store.specs.Store.{files_of, Files}
 use Rattle.commands.specs.Ending.{IsOfFile}
 use Rattle.commands.specs.Words.{Argument}
-use Rattle.commands.specs.Written.{Gains, Held, Written, gained}
+use Rattle.file_store.specs.Written.{Gains, Held, Written, gained}
 use Rattle.job_file.specs.declared.values.RunParam.{RunParam}
 use Rattle.job_file.specs.declared.values.RunParam.TheVariants as given
 use Rattle.region_mem.specs.declared.arguments.Arg.TheVariants as argument

@@ -3,8 +3,8 @@ ghost use Rattle.std.specs.Prelude.{MatchResult, OnOk};
 ghost use Rattle.rv_listing.specs.Sinks.{IsPassedOn, Told};
 ghost use Rattle.cert_note.specs.Values.{budget_text, product_text};
 ghost use Rattle.commands.specs.Checks.{Checks, StopsCheck, bound_line, second_text};
-ghost use Rattle.commands.specs.Ending.{Ends};
-ghost use Rattle.commands.specs.Files.{files_of};
+ghost use Rattle.commands.specs.Ending.{Ends, PassesOn};
+ghost use Rattle.file_store.specs.Store.{files_of};
 ghost use Rattle.commands.specs.Streams.{change, stream};
 
 use crate::accepted::accept;
@@ -12,8 +12,8 @@ use crate::did::Did;
 use crate::files::read_image;
 use crate::halt::Halt;
 use crate::stop::{Status, ended};
-use crate::store::Store;
 use cert_note::Budget;
+use file_store::Store;
 use rv_listing::{Failed, Piece, Sink, Stream, put_all};
 use std::alloc::Global;
 
@@ -30,12 +30,13 @@ pub fn check_image<S: Store, O: Stream, E: Sink>(
     output: &mut O,
     errors: &mut E,
 ) -> Status
-    ensures { let c = (change (S.held store.old) (S.held store.new)
+    ensures ends { let c = (change (S.held store.old) (S.held store.new)
         (stream (O.contents output.old) (O.failures output.old))
         (stream (O.contents output.new) (O.failures output.new))) in
         Ends explain (Checks (files_of c.was) path.now c) (StopsCheck (files_of c.was) c path.now)
         (stream (E.contents errors.old) (E.failures errors.old))
         (stream (E.contents errors.new) (E.failures errors.new)) result }
+    ensures passed { PassesOn result (O.passed output.new) (O.contents output.new) }
 {
     let done = check_at(alloc, path, store, output);
     ended(alloc, done, explain, errors)
@@ -47,11 +48,12 @@ fn check_at<'a, S: Store, O: Stream>(
     store: &mut S,
     output: &mut O,
 ) -> Result<Did, Halt<'a>>
-    ensures { let c = (change (S.held store.old) (S.held store.new)
+    ensures done { let c = (change (S.held store.old) (S.held store.new)
         (stream (O.contents output.old) (O.failures output.old))
         (stream (O.contents output.new) (O.failures output.new))) in
         MatchResult result (Checks (files_of c.was) path.entry.now c)
         (StopsCheck (files_of c.was) c path.entry.now) }
+    ensures passed { OnOk result (IsPassedOn (O.passed output.new) (O.contents output.new)) }
 {
     let image = read_image(alloc, path, store)?;
     let budget = accept(alloc, image, None)?.budget();

@@ -6,17 +6,20 @@ ghost use Rattle.toml.specs.Parse.{parse_document};
 ghost use Rattle.toml.specs.View.{table_view};
 ghost use Rattle.commands.specs.Accepted.{OrMemory};
 ghost use Rattle.commands.specs.Ending.{IsOfFile, stop_of_job};
-ghost use Rattle.commands.specs.Files.{ArePassed, AreWritten, IsImageAt, IsNoImageAt, IsNoTable};
-ghost use Rattle.commands.specs.Files.{IsJobAt, IsNoTableAt, IsOfParam, IsOutWritten, IsPassed};
-ghost use Rattle.commands.specs.Files.{IsUnpassed, IsWritten, files_of, image_in, out_file};
+ghost use Rattle.commands.specs.Files.{ArePassed, AreWritten, IsImageAt, IsImageOfFirst};
+ghost use Rattle.commands.specs.Files.{IsJobAt, IsNoImageAt, IsNoTable, IsNoTableAt, IsOfParam};
+ghost use Rattle.commands.specs.Files.{IsOutWritten, IsPassed};
+ghost use Rattle.commands.specs.Files.{IsUnpassed, IsWritten, image_in, out_file};
+ghost use Rattle.file_store.specs.Store.{files_of};
 ghost use Rattle.commands.specs.Halt.{bare};
-ghost use Rattle.commands.specs.System.{IsFirst, IsFirstOf};
+ghost use Rattle.commands.specs.Files.{AreFirst, IsFirstOf};
+ghost use Rattle.file_store.specs.System.{IsFirst};
 ghost use Rattle.commands.specs.Why.{ExplainsImage};
 
 use crate::halt::Halt;
-use crate::store::Store;
 use crate::why::{bad_image, bad_job, stop_at};
 use elf_image::{ElfError, Image, MAX_FILE_SIZE};
+use file_store::Store;
 use job_file::{JobError, RunParam, parse};
 use job_reasons::Command;
 use region_mem::{Arg, Args, Bytes, MAX_BUFFER_SIZE};
@@ -77,6 +80,7 @@ pub fn read_table<'a, S: Store>(
     ensures first { IfOk result (λ file.
         IsFirst (S.known store.old) path.entry.now (2 ^ 64 - 1) file.text.items) }
     ensures files { S.held store.new ≡ S.held store.old }
+    ensures known { S.known store.new ≡ S.known store.old }
 {
     let text = read(alloc, path, usize::MAX, store)?;
     match table_in(alloc, text.as_slice()) {
@@ -121,6 +125,7 @@ pub fn read_image_file<'a, S: Store>(
         IsFirst (S.known store.old) path.entry.now MOST_OF_IMAGE bytes.items
         ⊎ IsFirst (S.known store.old) path.entry.now (2 ^ 64 - 1) bytes.items) }
     ensures files { S.held store.new ≡ S.held store.old }
+    ensures known { S.known store.new ≡ S.known store.old }
 {
     let bytes = read(alloc, path, MOST_OF_IMAGE, store)?;
     if lacks_rest(alloc, &bytes) {
@@ -138,7 +143,10 @@ pub fn read_image<'a, S: Store>(
     ensures image { MatchResult result
         (IsImageAt (files_of (S.held store.old)) path.entry.now)
         (IsNoImageAt (files_of (S.held store.old)) path.entry.now) }
+    ensures first { IfOk result
+        (IsImageOfFirst (S.known store.old) path.entry.now MOST_OF_IMAGE) }
     ensures files { S.held store.new ≡ S.held store.old }
+    ensures known { S.known store.new ≡ S.known store.old }
 {
     let bytes = read_image_file(alloc, path, store)?;
     image_in(alloc, bytes.as_slice())
@@ -149,9 +157,9 @@ pub fn image_in<'a>(alloc: Global, file: &[u8]) -> Result<Image, Halt<'a>>
     ensures image { OrMemory (image_in file.now) (bare result) }
     ensures told { IfErr result (ExplainsImage file.now) }
 {
-    match elf_image::read(alloc, file) {
+    match elf_image::read_kept(alloc, file) {
         Ok(image) => Ok(image),
-        Err(error) => Err(bad_image(alloc, file, error)),
+        Err(refusal) => Err(bad_image(alloc, refusal)),
     }
 }
 
@@ -165,7 +173,10 @@ pub fn read_args<'a, S: Store>(
         (λ args.
         ArePassed (files_of (S.held store.old)) (map run_param_lent params.now) args.places)
         (IsUnpassed (files_of (S.held store.old)) (map run_param_lent params.now)) }
+    ensures first { IfOk result (λ args. AreFirst (S.known store.old) MOST_OF_BUFFER
+        (map run_param_lent params.now) args.places) }
     ensures files { S.held store.new ≡ S.held store.old }
+    ensures known { S.known store.new ≡ S.known store.old }
 {
     let Args { mut places }: Args = Args::none();
     for place in 0..8 {
@@ -185,6 +196,7 @@ fn read_arg<'a, S: Store>(
     ensures first { IfOk result
         (IsFirstOf (S.known store.old) MOST_OF_BUFFER (run_param_lent param.now)) }
     ensures files { S.held store.new ≡ S.held store.old }
+    ensures known { S.known store.new ≡ S.known store.old }
 {
     match param {
         RunParam::None => Ok(Arg::None),

@@ -4,11 +4,11 @@
 //!
 //! - `starts` has what those on a job begin with, `files` what is read, and the out files, `accepted` an image with its
 //!   certificate.
-//! - `sources` and `lines` have the input of `mon`, `trial` what comes of a run, `registers` those that it left, `stands`
+//! - `lines` has the input of `mon`, `trial` what comes of a run, `registers` those that it left, `stands`
 //!   where it stopped, `did` what was done.
 //! - `stop` has statuses and reasons to stop. `texts` and `escapes` have how those are told, `halt` what more is told of
 //!   them, `why` of what they are.
-//! - `store` has where files are, `system` those of the system, and `memory` files in memory.
+//! - `memory` has the subcommands over files in memory. Where files are stands in `file_store`.
 #![tactic(auto)]
 
 mod accepted;
@@ -24,27 +24,25 @@ mod mons;
 mod reasoned;
 mod registers;
 mod runs;
-mod sources;
 mod stands;
 mod starts;
 mod stop;
-mod store;
-mod system;
 mod texts;
 mod trial;
 mod tries;
 mod why;
 
 pub use checks::check_image;
+pub use file_store::{
+    Counted, Counts, Disk, MOST_READS, Memory, Native, Source, Store, StoreError, System,
+    read_some, reads_in_numbers,
+};
 pub use files::needs_in_numbers;
 pub use job_reasons::Escaped;
 pub use makes::{MakePaths, make_image};
-pub use memory::{Memory, check_memory, make_memory, mon_memory, run_memory, try_memory};
+pub use memory::{check_memory, make_memory, mon_memory, run_memory, try_memory};
 pub use mons::{mon_job, mon_job_within};
 pub use runs::run_job;
 pub use rv_listing::{Failed, Over, Sink, Stream};
-pub use sources::{Counted, Counts, Source};
 pub use stop::{Status, Stop};
-pub use store::{Disk, MOST_READS, Store, StoreError, read_some, reads_in_numbers};
-pub use system::{Native, System};
 pub use tries::try_job;

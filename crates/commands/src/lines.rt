@@ -4,16 +4,16 @@ ghost use Rattle.monitor.specs.Commands.{order_of};
 ghost use Rattle.rv_listing.specs.Sinks.{IsPassedOn};
 ghost use Rattle.commands.specs.Halt.{stop_of};
 ghost use Rattle.commands.specs.Mons.{IsOfInput, IsUnanswered};
-ghost use Rattle.commands.specs.Streams.{Prints, exchange, source, stream};
+ghost use Rattle.commands.specs.Streams.{Prints, exchange, stream};
+ghost use Rattle.file_store.specs.Sources.{source};
 ghost use Rattle.commands.specs.Talks.{GoesOver, IsAnswered, IsBroken, IsCutOff, IsDone, IsLine};
 ghost use Rattle.commands.specs.Talks.{Talks, answer_of, error_line, flow_after, watch};
 ghost use Rattle.commands.specs.declared.stop.Stop.TheVariants.{Memory};
 
 use crate::halt::Halt;
-use crate::sources::Source;
-use crate::store::StoreError;
 use crate::texts::monitor_error_name;
 use crate::why::stop_at;
+use file_store::{Source, StoreError};
 use monitor::{Flow, MonError, Monitor};
 use rv_listing::{Over, Piece, Stream, print, put_all};
 use std::alloc::Global;
@@ -125,6 +125,8 @@ fn answer_byte<'a, const VLENB: usize, O: Stream>(
         (stream (O.contents output.new) (O.failures output.new))
         (watch monitor.old.breakpoints.items monitor.old.session.now)
         (watch monitor.new.breakpoints.items monitor.new.session.now) f) }
+    ensures passed { OnOk result (IsPassedOn (O.passed output.old) (O.contents output.old)
+        → IsPassedOn (O.passed output.new) (O.contents output.new)) }
     ensures unanswered { IfErr result (λ halt. IsLine line.old.items → IsBroken VLENB
         (line.old.items ++ (byte ∷ []))
         (stream (O.contents output.old) (O.failures output.old))
@@ -158,6 +160,8 @@ fn answer_bytes<'a, const VLENB: usize, O: Stream>(
         (stream (O.contents output.new) (O.failures output.new))
         (watch monitor.old.breakpoints.items monitor.old.session.now)
         (watch monitor.new.breakpoints.items monitor.new.session.now) f) }
+    ensures passed { OnOk result (IsPassedOn (O.passed output.old) (O.contents output.old)
+        → IsPassedOn (O.passed output.new) (O.contents output.new)) }
     ensures unanswered { IfErr result (λ halt. IsLine line.old.items → IsBroken VLENB
         (line.old.items ++ bytes.now)
         (stream (O.contents output.old) (O.failures output.old))
@@ -199,6 +203,9 @@ pub fn answer_lines<'a, const VLENB: usize, I: Source, O: Stream>(
         (watch monitor.old.breakpoints.items monitor.old.session.now)
         (watch monitor.new.breakpoints.items monitor.new.session.now)) }
     ensures few { I.reads input.new ≤ I.reads input.old + reads }
+    ensures heard { OnOk result (I.failures input.new ≡ I.failures input.old) }
+    ensures passed { OnOk result (IsPassedOn (O.passed output.old) (O.contents output.old)
+        → IsPassedOn (O.passed output.new) (O.contents output.new)) }
     ensures unanswered { IfErr result (λ halt. IsUnanswered reads VLENB
         (exchange
         (source (I.remaining input.old) (I.reads input.old) (I.failures input.old))

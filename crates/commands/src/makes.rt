@@ -1,10 +1,11 @@
 //! `make`: an image with the certificate that is made of its loop.
-ghost use Rattle.std.specs.Prelude.{◌≡◌, Err, IfErr, IfOk, MatchResult, length};
+ghost use Rattle.std.specs.Prelude.{◌≡◌, Err, IfErr, IfOk, MatchResult, OnOk, length};
 ghost use Rattle.block_checker.specs.Accepted.{Passes};
 ghost use Rattle.cert_note.specs.Spelling.{spelling};
 ghost use Rattle.commands.specs.Accepted.{IsOrWant};
-ghost use Rattle.commands.specs.Ending.{Ends};
-ghost use Rattle.commands.specs.Files.{OfTable, StopsOfTable, files_of, image_in};
+ghost use Rattle.commands.specs.Ending.{Ends, PassesOn};
+ghost use Rattle.commands.specs.Files.{OfTable, StopsOfTable, image_in};
+ghost use Rattle.file_store.specs.Store.{files_of};
 ghost use Rattle.commands.specs.Halt.{bare};
 ghost use Rattle.commands.specs.Makes.{AnswersBytes, ExplainsMaking, ExplainsReadBack, Makes};
 ghost use Rattle.commands.specs.Makes.{StopsMake, accepted_in, bytes_of, certificate_for};
@@ -12,6 +13,7 @@ ghost use Rattle.commands.specs.Makes.{made_for, with_certificate};
 ghost use Rattle.commands.specs.Trial.{OrMemory};
 ghost use Rattle.commands.specs.Streams.{Wrote, change, stream};
 ghost use Rattle.commands.specs.Why.{ExplainsAttached, ExplainsLoop};
+ghost use Rattle.rv_listing.specs.Sinks.{IsPassedOn};
 ghost use Rattle.toml.specs.View.{table_view};
 
 use crate::accepted::accept;
@@ -22,15 +24,15 @@ use crate::halt::Halt;
 use crate::reasoned::boxed;
 use crate::starts::{on_table, taken};
 use crate::stop::Status;
-use crate::store::Store;
 use crate::why::{not_attached, not_made};
 use block_checker::Accepted;
-use cert_maker::make;
+use cert_maker::make_kept;
 use cert_note::Certificate;
 use elf_image::{Image, attach};
-use explanations::parameter_reason;
+use file_store::Store;
 use job_file::{MakeJob, make_job_in};
 use job_reasons::Command;
+use make_reasons::parameter_reason;
 use region_mem::Parameters;
 use rv_listing::{Sink, Stream};
 use std::alloc::Global;
@@ -64,7 +66,7 @@ pub fn make_image<'a, S: Store, O: Stream, E: Sink>(
     output: &mut O,
     errors: &mut E,
 ) -> Status
-    ensures { let c = (change (S.held store.old) (S.held store.new)
+    ensures ends { let c = (change (S.held store.old) (S.held store.new)
         (stream (O.contents output.old) (O.failures output.old))
         (stream (O.contents output.new) (O.failures output.new))) in
         Ends explain
@@ -74,6 +76,7 @@ pub fn make_image<'a, S: Store, O: Stream, E: Sink>(
         (StopsMake (files_of c.was) c paths.entry.image.now paths.entry.out.now))
         (stream (E.contents errors.old) (E.failures errors.old))
         (stream (E.contents errors.new) (E.failures errors.new)) result }
+    ensures passed { PassesOn result (O.passed output.new) (O.contents output.new) }
 {
     on_table!(alloc, paths.job, Command::Make, explain, store, errors; table, text =>
         make_table(alloc, table, text, paths, store, output))
@@ -88,13 +91,14 @@ fn make_table<'a, S: Store, O: Stream>(
     store: &mut S,
     output: &mut O,
 ) -> Result<Did, Halt<'a>>
-    ensures { let c = (change (S.held store.old) (S.held store.new)
+    ensures done { let c = (change (S.held store.old) (S.held store.new)
         (stream (O.contents output.old) (O.failures output.old))
         (stream (O.contents output.new) (O.failures output.new))) in
         MatchResult result
         (Makes (files_of c.was) paths.entry.image.now paths.entry.out.now (table_view table.now) c)
         (StopsMake (files_of c.was) c paths.entry.image.now paths.entry.out.now
         text.now (table_view table.now)) }
+    ensures passed { OnOk result (IsPassedOn (O.passed output.new) (O.contents output.new)) }
 {
     let job = taken(alloc, make_job_in(table), text, Command::Make)?;
     let file = read_image_file(alloc, paths.image, store)?;
@@ -116,9 +120,9 @@ fn certificate_for<'a>(alloc: Global, job: &MakeJob, image: &Image) -> Result<Ce
     let Some(parameters) = Parameters::new(job.params) else {
         return Err(Halt::Parameters(boxed(alloc, parameter_reason(&job.params))));
     };
-    match make(alloc, image, &parameters, job.vlen) {
+    match make_kept(alloc, image, &parameters, job.vlen) {
         Ok(certificate) => Ok(certificate),
-        Err(error) => Err(not_made(alloc, image, &job.params, error)),
+        Err(refusal) => Err(not_made(alloc, &job.params, refusal)),
     }
 }
 

@@ -1,25 +1,27 @@
 //! `mon`: commands on the run of an image that is accepted.
 ghost use Rattle.std.specs.Prelude.{◌≡◌, ◌≤◌, ◌+◌, [], IfErr, MatchResult, OnOk};
+ghost use Rattle.rv_listing.specs.Sinks.{IsPassedOn};
 ghost use Rattle.toml.specs.View.{table_view};
 ghost use Rattle.vreg_groups.specs.VectorLength.{IsVlenb, vlenb_of};
-ghost use Rattle.commands.specs.Ending.{Ends};
-ghost use Rattle.commands.specs.Files.{OfTable, StopsOfTable, files_of};
+ghost use Rattle.commands.specs.Ending.{Ends, PassesOn};
+ghost use Rattle.commands.specs.Files.{OfTable, StopsOfTable};
+ghost use Rattle.file_store.specs.Store.{files_of};
 ghost use Rattle.commands.specs.Halt.{stop_of};
 ghost use Rattle.commands.specs.Mons.{BeforeAll, IsStopped, IsUnanswered, Mons, StopsMon};
 ghost use Rattle.commands.specs.Mons.{StopsWatching};
-ghost use Rattle.commands.specs.Streams.{exchange, source, stream};
+ghost use Rattle.commands.specs.Streams.{exchange, stream};
+ghost use Rattle.file_store.specs.Sources.{source};
 ghost use Rattle.commands.specs.Talks.{AreTold, watch};
-ghost use Rattle.commands.specs.Written.{Gains};
+ghost use Rattle.file_store.specs.Written.{Gains};
 
 use crate::did::Did;
 use crate::files::write_outs;
 use crate::halt::Halt;
 use crate::lines::answer_lines;
-use crate::sources::Source;
 use crate::starts::{Ready, Start, on_table, started};
 use crate::stop::Status;
-use crate::store::{MOST_READS, Store};
 use crate::why::not_opened;
+use file_store::{MOST_READS, Source, Store};
 use job_reasons::Command;
 use monitor::Monitor;
 use region_mem::Args;
@@ -61,6 +63,8 @@ pub fn mon_job<S: Store, I: Source, O: Stream, E: Sink>(
         (stream (E.contents errors.old) (E.failures errors.old))
         (stream (E.contents errors.new) (E.failures errors.new)) result }
     ensures few { I.reads input.new ≤ I.reads input.old + MOST_READS }
+    ensures passed { IsPassedOn (O.passed output.old) (O.contents output.old)
+        → PassesOn result (O.passed output.new) (O.contents output.new) }
 {
     mon_job_within(
         alloc, path, explain, store, input, output, errors, MOST_READS,
@@ -93,6 +97,8 @@ pub fn mon_job_within<S: Store, I: Source, O: Stream, E: Sink>(
         (stream (E.contents errors.old) (E.failures errors.old))
         (stream (E.contents errors.new) (E.failures errors.new)) result }
     ensures few { I.reads input.new ≤ I.reads input.old + reads }
+    ensures passed { IsPassedOn (O.passed output.old) (O.contents output.old)
+        → PassesOn result (O.passed output.new) (O.contents output.new) }
 {
     on_table!(alloc, path, Command::Mon, explain, store, errors; table, text =>
         mon_table(alloc, table, text, store, input, output, reads))
@@ -119,6 +125,8 @@ fn mon_table<'a, S: Store, I: Source, O: Stream>(
         (StopsMon reads (files_of (S.held store.old)) e
         (Gains (S.held store.old) (S.held store.new)) text.now (table_view table.entry.now)) }
     ensures few { I.reads input.new ≤ I.reads input.old + reads }
+    ensures passed { OnOk result (IsPassedOn (O.passed output.old) (O.contents output.old)
+        → IsPassedOn (O.passed output.new) (O.contents output.new)) }
 {
     let Start { ready, args } = started(alloc, table, text, Command::Mon, store)?;
     let kept = mon_accepted(alloc, &ready, args, input, output, reads)?;
@@ -147,6 +155,8 @@ fn mon_accepted<'a, I: Source, O: Stream>(
         (StopsWatching reads (vlenb_of ready.now.job.vlen) ready.now.job.agnostic
         ready.now.job.max ready.now.accepted args.places e) }
     ensures few { I.reads input.new ≤ I.reads input.old + reads }
+    ensures passed { OnOk result (IsPassedOn (O.passed output.old) (O.contents output.old)
+        → IsPassedOn (O.passed output.new) (O.contents output.new)) }
 {
     match ready.job.vlen {
         Vlen::V128 => mon_session::<16, I, O>(alloc, ready, args, input, output, reads),
@@ -172,6 +182,9 @@ fn watch<'a, const VLENB: usize, I: Source, O: Stream>(
         (stream (O.contents output.new) (O.failures output.new)))
         session.old session.new) }
     ensures few { I.reads input.new ≤ I.reads input.old + reads }
+    ensures heard { OnOk result (I.failures input.new ≡ I.failures input.old) }
+    ensures passed { OnOk result (IsPassedOn (O.passed output.old) (O.contents output.old)
+        → IsPassedOn (O.passed output.new) (O.contents output.new)) }
     ensures unanswered { IfErr result (λ halt. IsUnanswered reads VLENB
         (exchange
         (source (I.remaining input.old) (I.reads input.old) (I.failures input.old))
@@ -204,6 +217,8 @@ fn mon_session<'a, const VLENB: usize, I: Source, O: Stream>(
         (StopsWatching reads VLENB ready.now.job.agnostic ready.now.job.max ready.now.accepted
         args.places e) }
     ensures few { I.reads input.new ≤ I.reads input.old + reads }
+    ensures passed { OnOk result (IsPassedOn (O.passed output.old) (O.contents output.old)
+        → IsPassedOn (O.passed output.new) (O.contents output.new)) }
 {
     let Ready { job, accepted } = ready;
     match Session::<VLENB>::open(alloc, accepted, args, job.agnostic, job.max) {

@@ -1,10 +1,12 @@
 //! `run`: a job on an image that is accepted.
-ghost use Rattle.std.specs.Prelude.{◌≡◌, IfErr, IfOk, MatchResult};
+ghost use Rattle.std.specs.Prelude.{◌≡◌, IfErr, IfOk, MatchResult, OnOk};
 ghost use Rattle.job_file.specs.Needs.{run_job_lent};
+ghost use Rattle.rv_listing.specs.Sinks.{IsPassedOn};
 ghost use Rattle.toml.specs.View.{table_view};
 ghost use Rattle.vreg_groups.specs.VectorLength.{IsVlenb};
-ghost use Rattle.commands.specs.Ending.{Ends};
-ghost use Rattle.commands.specs.Files.{OfTable, StopsOfTable, files_of};
+ghost use Rattle.commands.specs.Ending.{Ends, PassesOn};
+ghost use Rattle.commands.specs.Files.{OfTable, StopsOfTable};
+ghost use Rattle.file_store.specs.Store.{files_of};
 ghost use Rattle.commands.specs.Halt.{bare};
 ghost use Rattle.commands.specs.Runs.{ExplainsRun, Runs, StopsRun, run_of_job, session_of};
 ghost use Rattle.commands.specs.Streams.{Wrote, change, stream};
@@ -15,9 +17,9 @@ use crate::did::Did;
 use crate::halt::Halt;
 use crate::starts::{Ready, Start, on_table, started};
 use crate::stop::Status;
-use crate::store::Store;
 use crate::trial::{Trial, finish};
 use crate::why::not_opened;
+use file_store::Store;
 use job_reasons::Command;
 use region_mem::Args;
 use rv_listing::{Sink, Stream};
@@ -44,7 +46,7 @@ pub fn run_job<S: Store, O: Stream, E: Sink>(
     output: &mut O,
     errors: &mut E,
 ) -> Status
-    ensures { let c = (change (S.held store.old) (S.held store.new)
+    ensures ends { let c = (change (S.held store.old) (S.held store.new)
         (stream (O.contents output.old) (O.failures output.old))
         (stream (O.contents output.new) (O.failures output.new))) in
         Ends explain
@@ -53,6 +55,7 @@ pub fn run_job<S: Store, O: Stream, E: Sink>(
         (StopsRun (files_of c.was) registers c))
         (stream (E.contents errors.old) (E.failures errors.old))
         (stream (E.contents errors.new) (E.failures errors.new)) result }
+    ensures passed { PassesOn result (O.passed output.new) (O.contents output.new) }
 {
     on_table!(alloc, path, Command::Run, explain, store, errors; table, text =>
         run_table(alloc, table, text, registers, store, output))
@@ -67,12 +70,13 @@ fn run_table<'a, S: Store, O: Stream>(
     store: &mut S,
     output: &mut O,
 ) -> Result<Did, Halt<'a>>
-    ensures { let c = (change (S.held store.old) (S.held store.new)
+    ensures done { let c = (change (S.held store.old) (S.held store.new)
         (stream (O.contents output.old) (O.failures output.old))
         (stream (O.contents output.new) (O.failures output.new))) in
         MatchResult result
         (Runs (files_of c.was) registers (table_view table.entry.now) c)
         (StopsRun (files_of c.was) registers c text.now (table_view table.entry.now)) }
+    ensures passed { OnOk result (IsPassedOn (O.passed output.new) (O.contents output.new)) }
 {
     let Start { ready, args } = started(alloc, table, text, Command::Run, store)?;
     let trial = run_accepted(alloc, &ready, args)?;

@@ -3,12 +3,13 @@ ghost use Rattle.std.specs.Prelude.{◌≡◌, ◌++◌, IfErr, IfOk, IfSome, No
 ghost use Rattle.job_file.specs.Needs.{run_param_lent};
 ghost use Rattle.rv_listing.specs.Sinks.{IsPassedOn, Told};
 ghost use Rattle.commands.specs.Did.{did_of};
-ghost use Rattle.commands.specs.Files.{IsUnfinished, files_of, outs_of};
+ghost use Rattle.commands.specs.Files.{IsUnfinished, outs_of};
+ghost use Rattle.file_store.specs.Store.{files_of};
 ghost use Rattle.commands.specs.Halt.{stop_of};
 ghost use Rattle.commands.specs.Stands.{stand_line, stand_text};
 ghost use Rattle.commands.specs.Streams.{Prints, change, stream};
 ghost use Rattle.commands.specs.Trial.{end_line, line_of, shown_of};
-ghost use Rattle.commands.specs.Written.{Gains};
+ghost use Rattle.file_store.specs.Written.{Gains};
 ghost use Rattle.commands.specs.declared.stop.Stop.TheVariants.{Memory};
 
 use crate::did::{Did, stopped_at};
@@ -16,8 +17,8 @@ use crate::files::write_outs;
 use crate::halt::Halt;
 use crate::registers::put_state;
 use crate::stands::{Stand, stand_of};
-use crate::store::Store;
 use elf_image::Image;
+use file_store::Store;
 use job_file::RunParam;
 use region_mem::{Args, Fault};
 use rv_listing::{Failed, Over, Piece, Sink, Stream, print, put_all};

@@ -1,12 +1,14 @@
 //! `try`: a job on any image, with every test at each step.
-ghost use Rattle.std.specs.Prelude.{◌≡◌, IfErr, IfOk, MatchResult, map};
+ghost use Rattle.std.specs.Prelude.{◌≡◌, IfErr, IfOk, MatchResult, OnOk, map};
 ghost use Rattle.job_file.specs.Needs.{run_param_lent, try_job_lent, try_param_lent};
+ghost use Rattle.rv_listing.specs.Sinks.{IsPassedOn};
 ghost use Rattle.toml.specs.View.{table_view};
 ghost use Rattle.machine.specs.Start.{start};
 ghost use Rattle.sandbox_run.specs.Answer.{last_pc, steps_of};
 ghost use Rattle.vreg_groups.specs.VectorLength.{IsVlenb};
-ghost use Rattle.commands.specs.Ending.{Ends};
-ghost use Rattle.commands.specs.Files.{OfTable, StopsOfTable, files_of};
+ghost use Rattle.commands.specs.Ending.{Ends, PassesOn};
+ghost use Rattle.commands.specs.Files.{OfTable, StopsOfTable};
+ghost use Rattle.file_store.specs.Store.{files_of};
 ghost use Rattle.commands.specs.Streams.{Wrote, change, stream};
 ghost use Rattle.commands.specs.Trial.{OrMemory, trial_at};
 ghost use Rattle.commands.specs.Tries.{ExplainsTrial, StopsTry, Tries, bare_tried, last_of};
@@ -20,13 +22,13 @@ use crate::halt::Halt;
 use crate::reasoned::boxed;
 use crate::starts::{on_table, taken};
 use crate::stop::Status;
-use crate::store::Store;
 use crate::trial::{End, Trial, finish, trial_at};
 use crate::why::not_started;
 use elf_image::Image;
-use explanations::parameter_reason;
+use file_store::Store;
 use job_file::{RunParam, TryJob, TryParam, try_job_in};
 use job_reasons::Command;
+use make_reasons::parameter_reason;
 use region_mem::{Arg, Args, Param, Parameters};
 use rv_listing::{Sink, Stream};
 use sandbox_run::{Outcome, TriedRun, try_run_with_last};
@@ -51,7 +53,7 @@ pub fn try_job<S: Store, O: Stream, E: Sink>(
     output: &mut O,
     errors: &mut E,
 ) -> Status
-    ensures { let c = (change (S.held store.old) (S.held store.new)
+    ensures ends { let c = (change (S.held store.old) (S.held store.new)
         (stream (O.contents output.old) (O.failures output.old))
         (stream (O.contents output.new) (O.failures output.new))) in
         Ends explain
@@ -60,6 +62,7 @@ pub fn try_job<S: Store, O: Stream, E: Sink>(
         (StopsTry (files_of c.was) registers c))
         (stream (E.contents errors.old) (E.failures errors.old))
         (stream (E.contents errors.new) (E.failures errors.new)) result }
+    ensures passed { PassesOn result (O.passed output.new) (O.contents output.new) }
 {
     on_table!(alloc, path, Command::Try, explain, store, errors; table, text =>
         try_table(alloc, table, text, explain, registers, store, output))
@@ -75,12 +78,13 @@ fn try_table<'a, S: Store, O: Stream>(
     store: &mut S,
     output: &mut O,
 ) -> Result<Did, Halt<'a>>
-    ensures { let c = (change (S.held store.old) (S.held store.new)
+    ensures done { let c = (change (S.held store.old) (S.held store.new)
         (stream (O.contents output.old) (O.failures output.old))
         (stream (O.contents output.new) (O.failures output.new))) in
         MatchResult result
         (Tries (files_of c.was) registers (table_view table.entry.now) c)
         (StopsTry (files_of c.was) registers c text.now (table_view table.entry.now)) }
+    ensures passed { OnOk result (IsPassedOn (O.passed output.new) (O.contents output.new)) }
 {
     let job = taken(alloc, try_job_in(table), text, Command::Try)?;
     let image = read_image(alloc, job.image, store)?;

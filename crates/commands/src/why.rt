@@ -7,21 +7,23 @@ ghost use Rattle.commands.specs.Ending.{stop_of_image, stop_of_job, stop_of_make
 ghost use Rattle.cert_note.specs.Reading.{IsRefusal};
 ghost use Rattle.commands.specs.Halt.{error_of, stop_of};
 ghost use Rattle.commands.specs.Runs.{ExplainsRun};
+ghost use Rattle.cert_maker.specs.Refusal.{error_of as error_of_make};
 ghost use Rattle.commands.specs.Why.{ExplainsAttached, ExplainsCertificate, ExplainsCheck};
-ghost use Rattle.commands.specs.Why.{ExplainsImage, ExplainsJob, ExplainsLoop, ExplainsOpened};
+ghost use Rattle.commands.specs.Why.{ExplainsJob, ExplainsOpened, TellsImage, TellsLoop};
 ghost use Rattle.job_reasons.specs.Job.{IsJobReason};
 
 use crate::halt::{Halt, error_of};
 use crate::reasoned::{Reasoned, boxed};
-use crate::store::StoreError;
 use block_checker::{Accepted, CheckError, Refused};
-use cert_maker::MakeError;
+use cert_maker::MakeRefusal;
 use cert_note::{CertError, CertRefusal};
 use check_reasons::reason_of;
-use elf_image::{ElfError, Image};
-use explanations::{Refusal, attach_reason, image_reason, loop_reason, refusal_reason};
+use elf_image::{ElfError, ElfRefusal, Image};
+use explanations::{ImageReason, Refusal, refusal_reason};
+use file_store::StoreError;
 use job_file::JobError;
 use job_reasons::{Command, JobReason, job_reason};
+use make_reasons::{attach_reason, loop_reason};
 use open_reasons::open_reason;
 use region_mem::{Arg, Args, Param, Parameters};
 use sandbox_run::OpenError;
@@ -58,15 +60,15 @@ pub fn stop_at<'a>(
 }
 
 /// A file is no image.
-pub fn bad_image<'a>(alloc: Global, file: &[u8], error: ElfError) -> Halt<'a>
-    ensures stop { stop_of result ≡ stop_of_image error }
-    ensures told { ExplainsImage file.now result }
+pub fn bad_image<'a>(alloc: Global, refusal: ElfRefusal) -> Halt<'a>
+    ensures stop { stop_of result ≡ stop_of_image refusal.error }
+    ensures told { TellsImage refusal result }
 {
+    let ElfRefusal { error, evidence } = refusal;
     if let ElfError::NoMemory = error {
         Halt::Memory
     } else {
-        let reason = image_reason(file, error);
-        Halt::Image(Reasoned::new(alloc, error, reason))
+        Halt::Image(Reasoned::new(alloc, error, ImageReason(evidence)))
     }
 }
 
@@ -154,15 +156,15 @@ pub fn bad_job<'a>(alloc: Global, text: &[u8], command: Command, error: JobError
 }
 
 /// No certificate is made of an image for these parameters.
-pub fn not_made<'a>(alloc: Global, image: &Image, params: &[Param; 8], error: MakeError) -> Halt<'a>
-    ensures stop { stop_of result ≡ stop_of_make error }
-    ensures told { ExplainsLoop params.now image.now result }
+pub fn not_made<'a>(alloc: Global, params: &[Param; 8], refusal: MakeRefusal) -> Halt<'a>
+    ensures stop { stop_of result ≡ stop_of_make (error_of_make refusal) }
+    ensures told { TellsLoop params.now refusal result }
 {
-    match error {
-        MakeError::NoMemory => Halt::Memory,
-        MakeError::NotALoopOfTheClass(pc) => {
-            let reason = loop_reason(alloc, image, params, pc).ok();
-            Halt::Make(Reasoned::maybe(alloc, error, reason))
+    match refusal {
+        MakeRefusal::NoMemory => Halt::Memory,
+        MakeRefusal::Misfit(misfit) => {
+            let reason = loop_reason(alloc, misfit, params).ok();
+            Halt::Make(Reasoned::maybe(alloc, refusal.error(), reason))
         }
     }
 }

@@ -1,5 +1,6 @@
 pub mod FaultLemmas
 pub mod HasImage
+pub mod EvidenceLemmas
 pub mod Certificates
 pub mod AttachedSize
 pub mod PartLemmas

@@ -67,16 +67,16 @@ pub is_table : (file : List ℕ) → HasHeader file → IsTable file
 unfolding has_bad_header_table
 is_table file h =
     let a = neither _ _ h.table in
-    let there = neither _ _ a.1 in
     let b = neither _ _ a.0 in
+    let count = neither _ _ b.1 in
     let sizes = neither _ _ b.0 in
     record {
       header_size = eqb-true _ _ (not-false _ sizes.0);
       entry_size = eqb-true _ _ (not-false _ sizes.1);
       has_table = record {
         header = ltb-false _ _ h.short;
-        count = ltb-false _ _ there.0;
-        inside = ltb-false _ _ there.1;
+        count = ltb-false _ _ count.1;
+        inside = ltb-false _ _ a.1;
       };
     }
 

@@ -35,17 +35,19 @@ has_bad_machine file = not (e_machine file == EM_RISCV)
 unfoldable pub has_bad_flags : List ℕ → Bool
 has_bad_flags file = not (bit_and (e_flags file) EXTENSION_FLAGS == 0)
 
--- there are too many program headers, or their table doesn't lie inside the file
-abbrev pub lacks_table : List ℕ → Bool
-lacks_table file = nat_lt MAX_PROGRAM_HEADERS (e_phnum file)
-    || nat_lt (length file) (header_offset (e_phnum file) file)
+-- there is no program header, or there are too many
+abbrev pub has_bad_count : List ℕ → Bool
+has_bad_count file = e_phnum file == 0 || nat_lt MAX_PROGRAM_HEADERS (e_phnum file)
 
--- the sizes of the headers aren't the standard's for 32 bits, there is no program header or there
--- are too many, or their table doesn't lie inside the file
+-- their table doesn't lie inside the file
+abbrev pub has_table_outside : List ℕ → Bool
+has_table_outside file = nat_lt (length file) (header_offset (e_phnum file) file)
+
+-- the sizes of the headers aren't the standard's for 32 bits, or one of these is so
 unfoldable pub has_bad_header_table : List ℕ → Bool
 has_bad_header_table file =
     not (e_ehsize file == ELF_HEADER_SIZE) || not (e_phentsize file == PROGRAM_HEADER_SIZE)
-    || e_phnum file == 0 || lacks_table file
+    || has_bad_count file || has_table_outside file
 
 -- a program header of type PT_DYNAMIC, PT_INTERP or PT_TLS
 abbrev pub is_dynamic : ProgramHeader → Bool

@@ -3,6 +3,7 @@ pub mod Notes
 pub mod Image
 pub mod File
 pub mod Faults
+pub mod Evidence
 pub mod Error
 pub mod Attached
 pub mod ReadBack

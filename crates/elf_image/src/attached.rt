@@ -195,7 +195,7 @@ fn check_attached(file: &[u8], cert: &[u8]) -> Result<(), ElfError>
     check_header(file)?;
     let headers = HeaderTable::read(file);
     let segments = headers.segments();
-    check_places(file, &headers, &segments)?;
+    check_places(file, &headers)?;
     let too_large = is_too_large_file(file, &segments) || outgrows(file, cert);
     refuse_if(too_large, ElfError::TooLarge)?;
     refuse_if(is_entry_no_code(file, &segments), ElfError::EntryNotCode)?;

@@ -1,26 +1,23 @@
 //! What may be wrong with a file.
 
-ghost use Rattle.std.specs.Prelude.{◌≡◌, ◌≤◌, false, true, OnOk, length};
+ghost use Rattle.std.specs.Prelude.{◌≡◌, ◌≤◌, OnOk, None, Some, length, if◌then◌else◌};
 ghost use Rattle.std.specs.Result.{result_err};
-ghost use Rattle.std.specs.List.{list_any};
+ghost use Rattle.std.specs.List.{list_any, position};
 ghost use Rattle.elf_image.specs.File.{HasTable, e_entry, program_headers, segment_headers};
-ghost use Rattle.elf_image.specs.Faults.{has_bad_class, has_bad_flags, has_bad_header_table};
-ghost use Rattle.elf_image.specs.Faults.{has_bad_machine, has_bad_magic, has_bad_type};
-ghost use Rattle.elf_image.specs.Faults.{has_out_of_file, has_out_of_place, has_overlap};
-ghost use Rattle.elf_image.specs.Faults.{has_write_and_execute, is_not_code, is_not_static};
-ghost use Rattle.elf_image.specs.Faults.{is_too_large, is_too_short, lacks_table, overlap};
+ghost use Rattle.elf_image.specs.Evidence.{are_overlapping, breaks, error_of, field_refusal};
+ghost use Rattle.elf_image.specs.Evidence.{first_excess, first_refusal, overlap_from, refusal_if};
+ghost use Rattle.elf_image.specs.Faults.{has_bad_count, has_table_outside, is_not_code};
+ghost use Rattle.elf_image.specs.Faults.{is_too_large, is_too_short};
 ghost use Rattle.elf_image.specs.Faults.{has_word, first_of, header_faults, place_faults};
 ghost use Rattle.elf_image.specs.Faults.{segment_faults, told_if};
 
 use crate::error::ElfError;
+use crate::evidence::{ElfEvidence, ElfField, ElfRefusal, Excess, PlacedHeader, SegmentRule};
 use crate::header;
 use crate::header::{
     HeaderTable, MAX_PROGRAM_HEADERS, PROGRAM_HEADER_SIZE, ProgramHeader, half_at, word_at,
 };
-use crate::layout::{
-    HIGH_SEGMENTS, HIGH_SEGMENTS_END, LOW_SEGMENTS, LOW_SEGMENTS_END, MAX_FILE_SIZE,
-    MAX_MEMORY_SIZE, MAX_SEGMENTS,
-};
+use crate::layout::{MAX_FILE_SIZE, MAX_MEMORY_SIZE, MAX_SEGMENTS};
 
 /// What `e_ident` begins with ("ELF Identification", `ELFMAG`).
 const MAGIC: [u8; 4] = [0x7f, b'E', b'L', b'F'];
@@ -62,77 +59,120 @@ pub fn is_too_short(file: &[u8]) -> bool
     file.len() < ELF_HEADER_SIZE
 }
 
-#[tactic(auto, unfolding(crate::specs::Faults::has_bad_magic))]
-fn has_bad_magic(file: &[u8]) -> bool
-    ensures { result ≡ has_bad_magic file.now }
+/// Refuses a file of which a field is wrong.
+fn refuse_field(
+    file: &[u8],
+    wrong: bool,
+    error: ElfError,
+    field: ElfField,
+) -> Result<(), ElfRefusal>
+    requires { ELF_HEADER_SIZE ≤ length file.now }
+    ensures { result_err result ≡ (if wrong then Some (field_refusal file.now error field)
+        else None) }
 {
-    !file.starts_with(&MAGIC)
+    if wrong {
+        let evidence = field.evidence(file);
+        Err(ElfRefusal { error, evidence })
+    } else {
+        Ok(())
+    }
+}
+
+fn check_size_of_header(file: &[u8]) -> Result<(), ElfRefusal>
+    ensures value { result_err result ≡ refusal_if file.now ElfError.TooShort }
+    ensures size { OnOk result (ELF_HEADER_SIZE ≤ length file.now) }
+{
+    if is_too_short(file) {
+        return Err(ElfRefusal {
+            error: ElfError::TooShort,
+            evidence: ElfEvidence::Short(file.len()),
+        });
+    }
+    Ok(())
+}
+
+#[tactic(auto, unfolding(crate::specs::Faults::has_bad_magic))]
+fn check_magic(file: &[u8]) -> Result<(), ElfRefusal>
+    requires { ELF_HEADER_SIZE ≤ length file.now }
+    ensures { result_err result ≡ refusal_if file.now ElfError.BadMagic }
+{
+    let wrong = !file.starts_with(&MAGIC);
+    refuse_field(file, wrong, ElfError::BadMagic, ElfField::Magic)
 }
 
 #[tactic(auto, unfolding(crate::specs::Faults::has_bad_class))]
-fn has_bad_class(file: &[u8]) -> bool
+fn check_class(file: &[u8]) -> Result<(), ElfRefusal>
     requires { ELF_HEADER_SIZE ≤ length file.now }
-    ensures { result ≡ has_bad_class file.now }
+    ensures { result_err result ≡ refusal_if file.now ElfError.BadClass }
 {
-    file[EI_CLASS] != ELFCLASS32 || file[EI_DATA] != ELFDATA2LSB || file[EI_VERSION] != EV_CURRENT
+    let error = ElfError::BadClass;
+    refuse_field(file, file[EI_CLASS] != ELFCLASS32, error, ElfField::Class)?;
+    refuse_field(file, file[EI_DATA] != ELFDATA2LSB, error, ElfField::Order)?;
+    let wrong = file[EI_VERSION] != EV_CURRENT;
+    refuse_field(file, wrong, error, ElfField::IdentVersion)
 }
 
 #[tactic(auto, unfolding(crate::specs::Faults::has_bad_type))]
-fn has_bad_type(file: &[u8]) -> bool
+fn check_type(file: &[u8]) -> Result<(), ElfRefusal>
     requires { ELF_HEADER_SIZE ≤ length file.now }
-    ensures { result ≡ has_bad_type file.now }
+    ensures { result_err result ≡ refusal_if file.now ElfError.BadType }
 {
-    half_at(header::E_TYPE, file) != ET_EXEC
-        || word_at(header::E_VERSION, file) != u32::from(EV_CURRENT)
+    let wrong = half_at(header::E_TYPE, file) != ET_EXEC;
+    refuse_field(file, wrong, ElfError::BadType, ElfField::Type)?;
+    let wrong = word_at(header::E_VERSION, file) != u32::from(EV_CURRENT);
+    refuse_field(file, wrong, ElfError::BadType, ElfField::Version)
 }
 
 #[tactic(auto, unfolding(crate::specs::Faults::has_bad_machine))]
-fn has_bad_machine(file: &[u8]) -> bool
+fn check_machine(file: &[u8]) -> Result<(), ElfRefusal>
     requires { ELF_HEADER_SIZE ≤ length file.now }
-    ensures { result ≡ has_bad_machine file.now }
+    ensures { result_err result ≡ refusal_if file.now ElfError.BadMachine }
 {
-    half_at(header::E_MACHINE, file) != EM_RISCV
+    let wrong = half_at(header::E_MACHINE, file) != EM_RISCV;
+    refuse_field(file, wrong, ElfError::BadMachine, ElfField::Machine)
 }
 
 #[tactic(auto, unfolding(crate::specs::Faults::has_bad_flags))]
-fn has_bad_flags(file: &[u8]) -> bool
+fn check_flags(file: &[u8]) -> Result<(), ElfRefusal>
     requires { ELF_HEADER_SIZE ≤ length file.now }
-    ensures { result ≡ has_bad_flags file.now }
+    ensures { result_err result ≡ refusal_if file.now ElfError.BadFlags }
 {
-    word_at(header::E_FLAGS, file) & EXTENSION_FLAGS != 0
+    let wrong = word_at(header::E_FLAGS, file) & EXTENSION_FLAGS != 0;
+    refuse_field(file, wrong, ElfError::BadFlags, ElfField::Flags)
 }
 
-/// Whether the table has too many program headers, or does not lie inside the file.
-fn lacks_table(file: &[u8]) -> bool
+/// Whether there is no program header, or there are too many.
+fn has_bad_count(file: &[u8]) -> bool
     requires { ELF_HEADER_SIZE ≤ length file.now }
-    ensures value { result ≡ lacks_table file.now }
-    ensures table { result ≡ false → HasTable file.now }
+    ensures { result ≡ has_bad_count file.now }
 {
-    let count = half_at(header::E_PHNUM, file);
-    let end = u64::from(word_at(header::E_PHOFF, file))
-        + u64::from(PROGRAM_HEADER_SIZE) * u64::from(count);
-    usize::from(count) > MAX_PROGRAM_HEADERS || (file.len() as u64) < end
+    let count = usize::from(half_at(header::E_PHNUM, file));
+    count == 0 || MAX_PROGRAM_HEADERS < count
 }
 
-/// Whether the ELF header and the table of program headers lie inside the file, and the table is not too long ("ELF
-/// Header", `e_phoff` and `e_phnum`).
-pub fn has_table(file: &[u8]) -> bool
-    ensures yes { result ≡ true → HasTable file.now }
-    ensures no { result ≡ false → ¬ (HasTable file.now) }
+/// Whether the table of program headers does not lie inside the file.
+fn has_table_outside(file: &[u8]) -> bool
+    requires { ELF_HEADER_SIZE ≤ length file.now }
+    ensures { result ≡ has_table_outside file.now }
 {
-    !is_too_short(file) && !lacks_table(file)
+    let first = u64::from(word_at(header::E_PHOFF, file));
+    let count = u64::from(half_at(header::E_PHNUM, file));
+    (file.len() as u64) < first + u64::from(PROGRAM_HEADER_SIZE) * count
 }
 
 #[tactic(auto, unfolding(crate::specs::Faults::has_bad_header_table))]
-fn has_bad_header_table(file: &[u8]) -> bool
+fn check_table(file: &[u8]) -> Result<(), ElfRefusal>
     requires { ELF_HEADER_SIZE ≤ length file.now }
-    ensures value { result ≡ has_bad_header_table file.now }
-    ensures table { result ≡ false → HasTable file.now }
+    ensures value { result_err result ≡ refusal_if file.now ElfError.BadHeaderTable }
+    ensures table { OnOk result (HasTable file.now) }
 {
-    half_at(header::E_EHSIZE, file) as usize != ELF_HEADER_SIZE
-        || half_at(header::E_PHENTSIZE, file) != PROGRAM_HEADER_SIZE
-        || half_at(header::E_PHNUM, file) == 0
-        || lacks_table(file)
+    let error = ElfError::BadHeaderTable;
+    let wrong = half_at(header::E_EHSIZE, file) as usize != ELF_HEADER_SIZE;
+    refuse_field(file, wrong, error, ElfField::HeaderSize)?;
+    let wrong = half_at(header::E_PHENTSIZE, file) != PROGRAM_HEADER_SIZE;
+    refuse_field(file, wrong, error, ElfField::EntrySize)?;
+    refuse_field(file, has_bad_count(file), error, ElfField::EntryCount)?;
+    refuse_field(file, has_table_outside(file), error, ElfField::TableOffset)
 }
 
 /// Refuses a file that has this fault.
@@ -142,75 +182,117 @@ pub fn refuse_if(found: bool, fault: ElfError) -> Result<(), ElfError>
     if found { Err(fault) } else { Ok(()) }
 }
 
+/// Refuses a file for the first fault of its ELF header, with what is known of it.
+pub fn check_header_kept(file: &[u8]) -> Result<(), ElfRefusal>
+    ensures value { result_err result ≡ first_refusal header_faults file.now }
+    ensures table { OnOk result (HasTable file.now) }
+{
+    check_size_of_header(file)?;
+    check_magic(file)?;
+    check_class(file)?;
+    check_type(file)?;
+    check_machine(file)?;
+    check_flags(file)?;
+    check_table(file)
+}
+
 /// Refuses a file for the first fault of its ELF header.
+#[tactic(auto, using(crate::proofs::EvidenceLemmas::error_told, crate::proofs::EvidenceLemmas::none_told))]
 pub fn check_header(file: &[u8]) -> Result<(), ElfError>
     ensures value { result_err result ≡ first_of header_faults file.now }
     ensures table { OnOk result (HasTable file.now) }
 {
-    refuse_if(is_too_short(file), ElfError::TooShort)?;
-    refuse_if(has_bad_magic(file), ElfError::BadMagic)?;
-    refuse_if(has_bad_class(file), ElfError::BadClass)?;
-    refuse_if(has_bad_type(file), ElfError::BadType)?;
-    refuse_if(has_bad_machine(file), ElfError::BadMachine)?;
-    refuse_if(has_bad_flags(file), ElfError::BadFlags)?;
-    refuse_if(has_bad_header_table(file), ElfError::BadHeaderTable)
+    match check_header_kept(file) {
+        Ok(()) => Ok(()),
+        Err(refusal) => Err(refusal.error),
+    }
 }
 
-#[tactic(auto, unfolding(crate::specs::Faults::is_not_static))]
-fn is_not_static(headers: &[ProgramHeader]) -> bool
-    ensures { result ≡ is_not_static headers.now }
+/// The number of the first header that breaks a rule, in a file of this size.
+fn first_breaking(rule: SegmentRule, size: u64, headers: &[ProgramHeader]) -> Option<usize>
+    ensures { result ≡ position (breaks rule size) headers.now }
 {
-    headers.iter().any(|h| h.is_dynamic())
+    headers.iter().position(|h| rule.is_broken_by(size, h))
 }
 
-#[tactic(auto, unfolding(crate::specs::Faults::has_out_of_file))]
-fn has_out_of_file(size: u64, headers: &[ProgramHeader]) -> bool
-    ensures { result ≡ has_out_of_file size headers.now }
+/// Refuses a file for the first program header that breaks a rule.
+#[tactic(auto, using(crate::proofs::EvidenceLemmas::rule_told, crate::proofs::EvidenceLemmas::number_in_table))]
+fn check_rule(rule: SegmentRule, file: &[u8], headers: &[ProgramHeader]) -> Result<(), ElfRefusal>
+    requires table { HasTable file.now }
+    requires headers { headers.now ≡ program_headers file.now }
+    ensures { result_err result ≡ refusal_if file.now (error_of rule) }
 {
-    headers.iter().any(|h| h.is_out_of_file(size))
+    let size = file.len();
+    let Some(number) = first_breaking(rule, size as u64, headers) else {
+        return Ok(());
+    };
+    let header = PlacedHeader::read(number, file);
+    Err(ElfRefusal {
+        error: rule.error(),
+        evidence: ElfEvidence::Segment { rule, size, header },
+    })
 }
 
-#[tactic(auto, unfolding(crate::specs::Faults::has_out_of_place))]
-fn has_out_of_place(segments: &[ProgramHeader]) -> bool
-    ensures { result ≡ has_out_of_place segments.now }
+/// How many places behind a header the first segment stands that shares an address with it, from 0 on.
+fn first_overlapped(h: &ProgramHeader, others: &[ProgramHeader]) -> Option<usize>
+    ensures { result ≡ position (are_overlapping h.now) others.now }
 {
-    segments.iter().any(|h| h.is_out_of_place())
+    others.iter().position(|other| h.is_segment() && other.is_segment() && h.overlaps(other))
 }
 
-fn overlaps_one_of(h: &ProgramHeader, others: &[ProgramHeader]) -> bool
-    ensures { result ≡ list_any (overlap h.now) others.now }
+/// The numbers of the first two segments that share an address.
+#[tactic(auto, unfolding(crate::specs::Evidence::overlap_from))]
+fn first_overlap(headers: &[ProgramHeader]) -> Option<(usize, usize)>
+    ensures { result ≡ overlap_from 0 headers.now }
 {
-    others.iter().any(|other| h.overlaps(other))
-}
-
-#[tactic(auto, unfolding(crate::specs::Faults::has_overlap))]
-fn has_overlap(segments: &[ProgramHeader]) -> bool
-    ensures { result ≡ has_overlap segments.now }
-{
-    let mut rest = segments;
+    let mut rest = headers;
+    let mut number = 0;
     while let Some((first, others)) = rest.split_first() {
-        if overlaps_one_of(first, others) {
-            return true;
+        if let Some(behind) = first_overlapped(first, others) {
+            return Some((number, number + 1 + behind));
         }
         rest = others;
+        number += 1;
     }
-    false
+    None
 }
 
-#[tactic(auto, unfolding(crate::specs::Faults::has_write_and_execute))]
-fn has_write_and_execute(segments: &[ProgramHeader]) -> bool
-    ensures { result ≡ has_write_and_execute segments.now }
+/// Refuses a file for the first two segments that share an address.
+#[tactic(auto, using(crate::proofs::EvidenceLemmas::overlap_told, crate::proofs::EvidenceLemmas::numbers_in_table))]
+fn check_overlap(file: &[u8], headers: &[ProgramHeader]) -> Result<(), ElfRefusal>
+    requires table { HasTable file.now }
+    requires headers { headers.now ≡ program_headers file.now }
+    ensures { result_err result ≡ refusal_if file.now ElfError.SegmentsOverlap }
 {
-    segments.iter().any(|h| h.is_write_and_execute())
+    let Some((first, second)) = first_overlap(headers) else {
+        return Ok(());
+    };
+    Err(ElfRefusal {
+        error: ElfError::SegmentsOverlap,
+        evidence: ElfEvidence::Overlap {
+            first: PlacedHeader::read(first, file),
+            second: PlacedHeader::read(second, file),
+        },
+    })
 }
 
+/// Of what a file of this size with these segments has too much.
 #[tactic(auto, unfolding(crate::specs::Faults::is_too_large))]
-fn is_too_large(size: usize, segments: &[ProgramHeader]) -> bool
+fn excess(size: usize, segments: &[ProgramHeader]) -> Option<Excess>
     requires { length segments.now ≤ MAX_PROGRAM_HEADERS }
-    ensures { result ≡ is_too_large size segments.now }
+    ensures { result ≡ (if is_too_large size segments.now
+        then Some (first_excess size segments.now) else None) }
 {
     let memory: u64 = segments.iter().map(|h| u64::from(h.p_memsz)).sum();
-    size > MAX_FILE_SIZE || segments.len() > MAX_SEGMENTS || memory > MAX_MEMORY_SIZE
+    if size > MAX_FILE_SIZE {
+        Some(Excess::File(size))
+    } else if segments.len() > MAX_SEGMENTS {
+        Some(Excess::Segments(segments.len()))
+    } else if memory > MAX_MEMORY_SIZE {
+        Some(Excess::Memory(memory))
+    } else {
+        None
+    }
 }
 
 fn has_word(address: u32, h: &ProgramHeader) -> bool
@@ -232,26 +314,30 @@ fn is_not_code(entry: u32, segments: &[ProgramHeader]) -> bool
     entry % 4 != 0 || !has_code_at(entry, segments)
 }
 
-/// Refuses a file for the first fault of its program headers by themselves.
-pub fn check_places(
-    file: &[u8],
-    headers: &HeaderTable,
-    segments: &HeaderTable,
-) -> Result<(), ElfError>
+/// Refuses a file for the first fault of its program headers by themselves, with what is known of it.
+fn check_places_kept(file: &[u8], headers: &[ProgramHeader]) -> Result<(), ElfRefusal>
+    requires table { HasTable file.now }
     requires headers { headers.now ≡ program_headers file.now }
-    requires segments { segments.now ≡ segment_headers file.now }
+    ensures { result_err result ≡ first_refusal place_faults file.now }
+{
+    check_rule(SegmentRule::Static, file, headers)?;
+    check_rule(SegmentRule::InFile, file, headers)?;
+    check_rule(SegmentRule::InPlace, file, headers)?;
+    check_overlap(file, headers)?;
+    check_rule(SegmentRule::WriteOrExecute, file, headers)
+}
+
+/// Refuses a file for the first fault of its program headers by themselves.
+#[tactic(auto, using(crate::proofs::EvidenceLemmas::error_told, crate::proofs::EvidenceLemmas::none_told))]
+pub fn check_places(file: &[u8], headers: &HeaderTable) -> Result<(), ElfError>
+    requires table { HasTable file.now }
+    requires headers { headers.now ≡ program_headers file.now }
     ensures { result_err result ≡ first_of place_faults file.now }
 {
-    let headers = headers.as_slice();
-    let segments = segments.as_slice();
-    refuse_if(is_not_static(headers), ElfError::NotStatic)?;
-    refuse_if(
-        has_out_of_file(file.len() as u64, headers),
-        ElfError::SegmentOutOfFile,
-    )?;
-    refuse_if(has_out_of_place(segments), ElfError::SegmentOutOfPlace)?;
-    refuse_if(has_overlap(segments), ElfError::SegmentsOverlap)?;
-    refuse_if(has_write_and_execute(segments), ElfError::WriteAndExecute)
+    match check_places_kept(file, headers.as_slice()) {
+        Ok(()) => Ok(()),
+        Err(refusal) => Err(refusal.error),
+    }
 }
 
 /// Whether the file or its image is too large.
@@ -259,7 +345,7 @@ pub fn is_too_large_file(file: &[u8], segments: &HeaderTable) -> bool
     requires { segments.now ≡ segment_headers file.now }
     ensures { result ≡ is_too_large (length file.now) (segment_headers file.now) }
 {
-    is_too_large(file.len(), segments.as_slice())
+    excess(file.len(), segments.as_slice()).is_some()
 }
 
 /// Whether the entry isn't code.
@@ -271,18 +357,51 @@ pub fn is_entry_no_code(file: &[u8], segments: &HeaderTable) -> bool
     is_not_code(word_at(header::E_ENTRY, file), segments.as_slice())
 }
 
-/// Refuses a file for the first fault of its program headers.
-pub fn check_segments(
-    file: &[u8],
-    headers: &HeaderTable,
-    segments: &HeaderTable,
-) -> Result<(), ElfError>
+/// Refuses a file that is too large, with what there is too much of.
+fn check_large(file: &[u8], segments: &HeaderTable) -> Result<(), ElfRefusal>
+    requires { segments.now ≡ segment_headers file.now }
+    ensures { result_err result ≡ refusal_if file.now ElfError.TooLarge }
+{
+    match excess(file.len(), segments.as_slice()) {
+        Some(excess) => Err(ElfRefusal {
+            error: ElfError::TooLarge,
+            evidence: ElfEvidence::Large(excess),
+        }),
+        None => Ok(()),
+    }
+}
+
+/// Refuses a file of which the entry is not in code, with the segments where it is not.
+fn check_entry(file: &[u8], headers: &HeaderTable, segments: &HeaderTable) -> Result<(), ElfRefusal>
     requires header { HasTable file.now }
     requires headers { headers.now ≡ program_headers file.now }
     requires segments { segments.now ≡ segment_headers file.now }
-    ensures { result_err result ≡ first_of segment_faults file.now }
+    ensures { result_err result ≡ refusal_if file.now ElfError.EntryNotCode }
 {
-    check_places(file, headers, segments)?;
-    refuse_if(is_too_large_file(file, segments), ElfError::TooLarge)?;
-    refuse_if(is_entry_no_code(file, segments), ElfError::EntryNotCode)
+    if is_entry_no_code(file, segments) {
+        return Err(ElfRefusal {
+            error: ElfError::EntryNotCode,
+            evidence: ElfEvidence::NoCode {
+                entry: word_at(header::E_ENTRY, file),
+                segments: headers.segments(),
+            },
+        });
+    }
+    Ok(())
+}
+
+/// Refuses a file for the first fault of its program headers, with what is known of it.
+pub fn check_segments_kept(
+    file: &[u8],
+    headers: &HeaderTable,
+    segments: &HeaderTable,
+) -> Result<(), ElfRefusal>
+    requires header { HasTable file.now }
+    requires headers { headers.now ≡ program_headers file.now }
+    requires segments { segments.now ≡ segment_headers file.now }
+    ensures { result_err result ≡ first_refusal segment_faults file.now }
+{
+    check_places_kept(file, headers.as_slice())?;
+    check_large(file, segments)?;
+    check_entry(file, headers, segments)
 }

@@ -287,6 +287,7 @@ impl HeaderTable {
         self.entries.push(header);
     }
 
+    /// The headers, in the order of the table.
     pub fn as_slice(&self) -> &[ProgramHeader]
         ensures value { result.now ≡ self.now }
         ensures bound { length self.now ≤ MAX_PROGRAM_HEADERS }
@@ -296,7 +297,7 @@ impl HeaderTable {
 
     /// The program headers of a file.
     #[tactic(auto, unfolding(crate::specs::File::program_headers))]
-    pub fn read(file: &[u8]) -> HeaderTable
+    pub(crate) fn read(file: &[u8]) -> HeaderTable
         requires { HasTable file.now }
         ensures { result ≡ program_headers file.now }
     {
@@ -309,7 +310,7 @@ impl HeaderTable {
     }
 
     /// The headers of the segments among them, in their order.
-    pub fn segments(&self) -> HeaderTable
+    pub(crate) fn segments(&self) -> HeaderTable
         ensures { result ≡ filter is_segment self.now }
     {
         let mut table = HeaderTable::new();

@@ -4,6 +4,7 @@
 
 mod attached;
 mod error;
+mod evidence;
 mod faults;
 mod header;
 mod image;
@@ -16,14 +17,13 @@ mod segment;
 
 pub use attached::{attach, put_half, put_word};
 pub use error::ElfError;
+pub use evidence::{ElfEvidence, ElfField, ElfRefusal, Excess, PlacedHeader, SegmentRule};
 pub use faults::{
-    EI_CLASS, EI_DATA, EI_VERSION, ELF_HEADER_SIZE, ELFCLASS32, ELFDATA2LSB, EM_RISCV, ET_EXEC,
-    EV_CURRENT, has_table, is_too_short,
+    ELF_HEADER_SIZE, ELFCLASS32, ELFDATA2LSB, EM_RISCV, ET_EXEC, EV_CURRENT, is_too_short,
 };
 pub use header::{
-    E_EHSIZE, E_ENTRY, E_FLAGS, E_MACHINE, E_PHENTSIZE, E_PHNUM, E_PHOFF, E_TYPE, E_VERSION,
-    MAX_PROGRAM_HEADERS, PROGRAM_HEADER_SIZE, ProgramHeader, half_at, header_offset,
-    program_header_at, word_at,
+    E_ENTRY, E_PHNUM, HeaderTable, MAX_PROGRAM_HEADERS, PROGRAM_HEADER_SIZE, ProgramHeader,
+    half_at, word_at,
 };
 pub use image::Image;
 pub use laws::{attached_is_read, segments_are_kept};
@@ -34,5 +34,5 @@ pub use layout::{
 pub use numbers::{
     executables_in_numbers, header_in_numbers, notes_in_numbers, program_headers_in_numbers,
 };
-pub use reading::read;
+pub use reading::{read, read_kept};
 pub use segment::{Rights, Segment};

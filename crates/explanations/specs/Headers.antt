@@ -1,71 +1,15 @@
--- Program headers of a file, as they are told.
-use Rattle.std.specs.Prelude.{◌≡◌, ◌<◌, ℕ, ◌+◌, ◌&&◌, ◌++◌, Bool, true, false, List, [], codes, length, nat_lt}
+-- Program headers of a file, in lines.
+use Rattle.std.specs.Prelude.{ℕ, ◌+◌, ◌++◌, Bool, true, false, List, [], codes}
 use Rattle.std.specs.Fmt.{decimal}
 use Rattle.std.specs.List.{flat_map}
-use Rattle.elf_image.specs.File.{e_phnum, header_offset, is_executable, is_readable, is_segment, is_writable, program_header_at}
-use Rattle.elf_image.specs.Faults.{is_dynamic, is_out_of_file, is_out_of_place, is_write_and_execute, overlap}
+use Rattle.elf_image.specs.File.{is_executable, is_readable, is_writable}
+use Rattle.elf_image.specs.declared.evidence.PlacedHeader.{PlacedHeader}
+use Rattle.elf_image.specs.declared.evidence.SegmentRule.{SegmentRule}
+use Rattle.elf_image.specs.declared.evidence.SegmentRule.TheVariants as rule
 use Rattle.elf_image.specs.declared.header.ProgramHeader.{ProgramHeader}
 use Rattle.explanations.specs.Address.{address_text}
-use Rattle.explanations.specs.declared.headers.Header.{Header}
-use Rattle.explanations.specs.declared.headers.SegmentRule.{SegmentRule}
-use Rattle.explanations.specs.declared.headers.SegmentRule.TheVariants as rule
 
--- the header with a number
-unfoldable pub header_at : List ℕ → ℕ → ProgramHeader
-header_at file number = program_header_at (header_offset number file) file
-
--- What is told is the header with this number: where it begins, and the numbers that stand in
--- the file there.
-pub record IsHeader (file : List ℕ) (n : ℕ) (h : Header) : Type 0 where
-  pub there : n < e_phnum file
-  pub number : h.number ≡ n
-  pub offset : h.offset ≡ header_offset n file
-  pub fields : h.fields ≡ header_at file n
-
--- a header breaks a rule, in a file of this size
-unfoldable pub breaks : SegmentRule → ℕ → ProgramHeader → Bool
-breaks rule.Static size h = is_dynamic h
-breaks rule.InFile size h = is_out_of_file size h
-breaks rule.InPlace size h = is_segment h && is_out_of_place h
-breaks rule.WriteOrExecute size h = is_segment h && is_write_and_execute h
-
--- none of the headers below a number breaks the rule
-abbrev pub NoneBreaks : SegmentRule → List ℕ → ℕ → Type 0
-NoneBreaks rule file count =
-    (i : ℕ) → i < count → breaks rule (length file) (header_at file i) ≡ false
-
--- What is told is the first header that breaks the rule.
-pub record IsFirst (rule : SegmentRule) (file : List ℕ) (h : Header) : Type 0 where
-  pub header : IsHeader file h.number h
-  pub breaks : breaks rule (length file) h.fields ≡ true
-  pub first : NoneBreaks rule file h.number
-
--- ---- segments that share an address
-
--- a segment with a greater number shares an address with the first one
-abbrev pub are_overlapping : ℕ → ProgramHeader → ℕ → ProgramHeader → Bool
-are_overlapping n g m h = nat_lt n m && is_segment h && overlap g h
-
--- no segment behind number n shares an address with the header g that has it, of
--- those below a number
-abbrev pub NoneOverlaps : List ℕ → ℕ → ProgramHeader → ℕ → Type 0
-NoneOverlaps file n g count = (m : ℕ) → m < count → are_overlapping n g m (header_at file m) ≡ false
-
--- What is told are two segments that share an address, in their order.
-pub record AreOverlapping (file : List ℕ) (g h : Header) : Type 0 where
-  pub one : IsHeader file g.number g
-  pub other : IsHeader file h.number h
-  pub segment : is_segment g.fields ≡ true
-  pub overlapping : are_overlapping g.number g.fields h.number h.fields ≡ true
-
--- none of the segments below a number shares an address with one behind it
-abbrev pub AreApart : List ℕ → ℕ → Type 0
-AreApart file count = (n : ℕ) → n < count → is_segment (header_at file n) ≡ true
-    → NoneOverlaps file n (header_at file n) (e_phnum file)
-
--- ---- how they are told
-
-abbrev pub place_line : Header → List ℕ
+abbrev pub place_line : PlacedHeader → List ℕ
 place_line h = codes "  program header " ++ (decimal h.number ++ (codes " at byte "
     ++ (decimal h.offset ++ codes " of the file:\n")))
 
@@ -77,7 +21,7 @@ abbrev pub size_line : ProgramHeader → List ℕ
 size_line h = codes "  p_filesz " ++ (decimal h.p_filesz ++ (codes ", p_memsz "
     ++ (decimal h.p_memsz ++ (codes ", p_flags " ++ (decimal h.p_flags ++ codes "\n")))))
 
-unfoldable pub header_text : Header → List ℕ
+unfoldable pub header_text : PlacedHeader → List ℕ
 header_text h = place_line h ++ (address_line h.fields ++ size_line h.fields)
 
 -- what may be done in a segment, by three rights

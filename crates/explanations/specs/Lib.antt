@@ -3,6 +3,4 @@ pub mod Headers
 pub mod Image
 pub mod Certificate
 pub mod Words
-pub mod Make
-pub mod Loops
 pub mod Refusal

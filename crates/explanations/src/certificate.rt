@@ -1,12 +1,11 @@
 //! Why bytes are no certificate: where reading stopped, and what is wanted there.
-ghost use Rattle.std.specs.Prelude.{◌≡◌, IfOk};
+ghost use Rattle.std.specs.Prelude.{◌≡◌};
 ghost use Rattle.cert_note.specs.Reading.{IsRefusal};
 ghost use Rattle.explanations.specs.Certificate.{IsReason, bytes_told, last_bytes, reason_of};
 ghost use Rattle.explanations.specs.Certificate.{wanted};
 
 use crate::address::Byte;
 use cert_note::{CertError, CertRefusal};
-use std::alloc::{AllocError, Allocator};
 use std::fmt;
 
 /// How many of the bytes that were read are told at most.
@@ -81,32 +80,6 @@ pub fn refusal_reason(bytes: &[u8], refusal: CertRefusal) -> CertificateReason
         last: last_bytes(bytes, refusal.place),
         block: refusal.block,
     }
-}
-
-/// Why bytes are no certificate: where the error was told when they were read, and in which block. They are read again
-/// for it: [`refusal_reason`] takes what was kept.
-///
-/// # Errors
-/// An allocation was refused.
-pub fn certificate_reason<A: Allocator + Copy>(
-    alloc: A,
-    bytes: &[u8],
-    error: CertError,
-) -> Result<CertificateReason, AllocError>
-    ensures { IfOk result (IsReason bytes.now error) }
-{
-    if let Err(refusal) = cert_note::read_kept(alloc, bytes) {
-        if refusal.error == error {
-            return Ok(refusal_reason(bytes, refusal));
-        }
-    }
-    Ok(CertificateReason {
-        error,
-        size: bytes.len(),
-        place: None,
-        last: LastBytes::None,
-        block: None,
-    })
 }
 
 /// What is wanted, by the error.

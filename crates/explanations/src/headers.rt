@@ -1,144 +1,10 @@
-//! Program headers of a file, as they are told.
-ghost use Rattle.std.specs.Prelude.{◌≡◌, ◌<◌, ◌≤◌, ◌+◌, ◌++◌, ◌∷◌, [], IfSome, IfNone, true};
-ghost use Rattle.std.specs.Prelude.{if◌then◌else◌};
-ghost use Rattle.arrayvec.specs.ArrayVec.{array_vec_len};
-ghost use Rattle.elf_image.specs.File.{HasTable, e_phnum, is_segment, segment_headers};
-ghost use Rattle.elf_image.specs.declared.header.TheConstants.{MAX_PROGRAM_HEADERS};
-ghost use Rattle.explanations.specs.Headers.{AreApart, AreOverlapping, IsFirst, IsHeader};
-ghost use Rattle.explanations.specs.Headers.{NoneBreaks, NoneOverlaps, are_overlapping, breaks};
+//! Program headers of a file, in lines.
+ghost use Rattle.std.specs.Prelude.{◌≡◌};
 ghost use Rattle.explanations.specs.Headers.{rights_text};
 
 use crate::address::Address;
-use arrayvec::ArrayVec;
-use elf_image::{
-    E_PHNUM, MAX_PROGRAM_HEADERS, ProgramHeader, half_at, header_offset, program_header_at,
-};
+use elf_image::{PlacedHeader, ProgramHeader, SegmentRule};
 use std::fmt;
-
-/// A rule that each program header has to meet.
-#[derive(Clone, Copy, PartialEq, Eq)]
-pub enum SegmentRule {
-    /// None asks for dynamic linking, an interpreter or thread-local storage.
-    Static,
-    /// The bytes of a segment lie in the file, and it has no more in the file than in memory.
-    InFile,
-    /// The addresses of a segment are for segments.
-    InPlace,
-    /// A segment can't be both written and executed.
-    WriteOrExecute,
-}
-
-/// A program header: its number in the table, from 0 on, where it begins in the file, and what its fields say.
-#[derive(Clone, Copy, PartialEq, Eq)]
-pub struct Header {
-    pub number: usize,
-    pub offset: usize,
-    pub fields: ProgramHeader,
-}
-
-/// The program header with a number.
-#[tactic(auto, unfolding(crate::specs::Headers::header_at))]
-fn header_at(file: &[u8], number: usize) -> Header
-    requires table { HasTable file.now }
-    requires there { number < e_phnum file.now }
-    ensures { IsHeader file.now number result }
-{
-    let offset = header_offset(number, file);
-    Header {
-        number,
-        offset,
-        fields: program_header_at(offset, file),
-    }
-}
-
-/// Appends a program header, if it is that of a segment.
-fn add_segment(segments: &mut ArrayVec<ProgramHeader, MAX_PROGRAM_HEADERS>, header: ProgramHeader)
-    requires { array_vec_len segments.old < MAX_PROGRAM_HEADERS }
-    ensures items { segments.new.items ≡ segments.old.items
-        ++ (if is_segment header then header ∷ [] else []) }
-    ensures len { array_vec_len segments.new ≤ array_vec_len segments.old + 1 }
-{
-    if header.is_segment() {
-        segments.push(header);
-    }
-}
-
-/// The program headers of the segments of a file, in their order.
-#[tactic(auto, unfolding(elf_image::specs::File::program_headers))]
-pub(crate) fn segment_headers(file: &[u8]) -> ArrayVec<ProgramHeader, MAX_PROGRAM_HEADERS>
-    requires { HasTable file.now }
-    ensures { result.items ≡ segment_headers file.now }
-{
-    let mut segments = ArrayVec::new();
-    for number in 0..usize::from(half_at(E_PHNUM, file)) {
-        let offset = header_offset(number, file);
-        add_segment(&mut segments, program_header_at(offset, file));
-    }
-    segments
-}
-
-/// Whether a header breaks a rule, in a file of this size.
-#[tactic(auto, unfolding(crate::specs::Headers::breaks))]
-fn breaks(rule: SegmentRule, size: u64, header: &ProgramHeader) -> bool
-    ensures { result ≡ breaks rule size header.now }
-{
-    match rule {
-        SegmentRule::Static => header.is_dynamic(),
-        SegmentRule::InFile => header.is_out_of_file(size),
-        SegmentRule::InPlace => header.is_segment() && header.is_out_of_place(),
-        SegmentRule::WriteOrExecute => header.is_segment() && header.is_write_and_execute(),
-    }
-}
-
-/// The first program header that breaks a rule.
-pub(crate) fn first_breaking(file: &[u8], rule: SegmentRule) -> Option<Header>
-    requires { HasTable file.now }
-    ensures first { IfSome result (IsFirst rule file.now) }
-    ensures none { IfNone result (NoneBreaks rule file.now (e_phnum file.now)) }
-{
-    for number in 0..usize::from(half_at(E_PHNUM, file)) {
-        let header = header_at(file, number);
-        if breaks(rule, file.len() as u64, &header.fields) {
-            return Some(header);
-        }
-    }
-    None
-}
-
-/// The first segment behind a header in the table that shares an address with it.
-fn overlapped(file: &[u8], first: &Header) -> Option<Header>
-    requires { HasTable file.now }
-    ensures found { IfSome result (λ h. IsHeader file.now h.number h
-        × (are_overlapping first.now.number first.now.fields h.number h.fields ≡ true)) }
-    ensures none { IfNone result
-        (NoneOverlaps file.now first.now.number first.now.fields (e_phnum file.now)) }
-{
-    for number in 0..usize::from(half_at(E_PHNUM, file)) {
-        let header = header_at(file, number);
-        let Header { fields, .. } = header;
-        if first.number < number && fields.is_segment() && first.fields.overlaps(&fields) {
-            return Some(header);
-        }
-    }
-    None
-}
-
-/// Two segments that share an address, in the order of the table.
-pub(crate) fn first_overlap(file: &[u8]) -> Option<(Header, Header)>
-    requires { HasTable file.now }
-    ensures found { IfSome result (λ both. AreOverlapping file.now both.0 both.1) }
-    ensures none { IfNone result (AreApart file.now (e_phnum file.now)) }
-{
-    for number in 0..usize::from(half_at(E_PHNUM, file)) {
-        let first = header_at(file, number);
-        if first.fields.is_segment() {
-            if let Some(second) = overlapped(file, &first) {
-                return Some((first, second));
-            }
-        }
-    }
-    None
-}
 
 /// The line that tells its type, its offset and its address.
 #[derive(Clone, Copy)]
@@ -188,19 +54,23 @@ impl fmt::Display for SizeLine {
     }
 }
 
-impl fmt::Display for Header {
+/// A program header: its number, where it begins in the file, and what its fields say.
+#[derive(Clone, Copy)]
+pub(crate) struct HeaderLines(pub(crate) PlacedHeader);
+
+impl fmt::Display for HeaderLines {
     ghost use Rattle.std.specs.Prelude.{Some};
     ghost use Rattle.explanations.specs.Headers.{header_text};
 
-    ghost output = { λ header. Some (header_text header) };
+    ghost output = { λ lines. Some (header_text lines.0) };
 
     #[tactic(auto, unfolding(crate::specs::Headers::header_text))]
     fn fmt<W: fmt::Write>(&self, f: &mut fmt::Formatter<W>) -> fmt::Result {
-        let Header {
+        let PlacedHeader {
             number,
             offset,
             fields,
-        } = *self;
+        } = self.0;
         let address = AddressLine(fields);
         let size = SizeLine(fields);
         writeln!(f, "  program header {number} at byte {offset} of the file:")?;
@@ -299,14 +169,18 @@ impl fmt::Display for FileLine {
     }
 }
 
-impl fmt::Display for SegmentRule {
+/// What a rule wants of each program header, and the remedy where there is one.
+#[derive(Clone, Copy)]
+pub(crate) struct RuleLines(pub(crate) SegmentRule);
+
+impl fmt::Display for RuleLines {
     ghost use Rattle.std.specs.Prelude.{Some};
     ghost use Rattle.explanations.specs.Headers.{rule_text};
 
-    ghost output = { λ rule. Some (rule_text rule) };
+    ghost output = { λ lines. Some (rule_text lines.0) };
 
     fn fmt<W: fmt::Write>(&self, f: &mut fmt::Formatter<W>) -> fmt::Result {
-        f.write_str(match self {
+        f.write_str(match self.0 {
             SegmentRule::Static => "  wanted: no p_type 2, 3 or 7\n  remedy: link with -static\n",
             SegmentRule::InFile => {
                 "  wanted: p_offset + p_filesz within the file, and p_filesz at most p_memsz\n"

@@ -1,4 +1,4 @@
-//! Mask logic on chunks of whole bytes, each of which has the bits of eight elements.
+//! Mask logic on chunks of whole bytes. Each byte has the bits of eight elements.
 ghost use Rattle.std.specs.Prelude.{◌≡◌, ℕ, ◌<◌, slice_index};
 ghost use lib.Lanes.{zip2};
 ghost use Rattle.lane_masks.specs.Chunks.{byte_of, is_set};

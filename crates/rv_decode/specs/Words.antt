@@ -1,4 +1,4 @@
--- The instructions' types and those of what they need, and the variants of which the name alone
+-- The instructions' types and those of what they need, and the variants whose name alone
 -- says whose they are; another is named with its type, as `Addressing.Mask`.
 pub use Rattle.rv_decode.specs.declared.instructions.{Insn.Insn, ScalarInsn.ScalarInsn, CsrInsn.CsrInsn, VSet.VSet, VArith.VArith}
 pub use Rattle.rv_decode.specs.declared.instructions.{VMask.VMask, VPerm.VPerm, VReduce.VReduce, VMem.VMem, VMove.VMove}

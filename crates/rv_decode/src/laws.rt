@@ -28,7 +28,7 @@ pub fn immediate_s_is_read_back(imm: i32, middle: u32, opcode: u32)
     ensures { immediate_s (encode_s imm middle opcode) ≡ imm }
 {}
 
-/// The B format: thirteen signed bits, of which the lowest is 0.
+/// The B format: thirteen signed bits, the lowest of them 0.
 pub fn immediate_b_is_read_back(imm: i32, middle: u32, opcode: u32)
     requires least { negsuc 4095 ≤ℤ imm }
     requires greatest { imm ≤ℤ pos 4095 }
@@ -45,7 +45,7 @@ pub fn immediate_u_is_read_back(imm: u32, low: u32)
     ensures { immediate_u (encode_u imm low) ≡ imm }
 {}
 
-/// The J format: twenty-one signed bits, of which the lowest is 0.
+/// The J format: twenty-one signed bits, the lowest of them 0.
 pub fn immediate_j_is_read_back(imm: i32, low: u32)
     requires least { negsuc 1048575 ≤ℤ imm }
     requires greatest { imm ≤ℤ pos 1048575 }

@@ -6,6 +6,7 @@ use Rattle.block_checker.specs.Passes.{Checked, checked}
 use Rattle.cert_note.specs.Certificate.{CertificateView}
 use Rattle.cert_note.specs.Reading.{certificate_of}
 use Rattle.cert_note.specs.declared.refusals.CertError.{CertError}
+use Rattle.cert_note.specs.declared.refusals.CertRefusal.{CertRefusal}
 use Rattle.elf_image.specs.Faults.{fault_of}
 use Rattle.elf_image.specs.File.{image_of}
 use Rattle.elf_image.specs.Image.{ImageView}
@@ -41,6 +42,14 @@ abbrev pub Tells : Why → Refusal → Type 0
 Tells (Known this) refusal = refusal ≡ this
 Tells (Unread note error) refusal =
     (read : ℕ) × IsPlace note error read × (refusal ≡ certificate_refusal error read)
+
+-- the same by a refusal that reading kept: one without a place tells of want of memory
+abbrev pub unread_at : CertRefusal → Option ℕ → Refusal
+unread_at refusal None = plain status.NoMemory
+unread_at refusal (Some read) = certificate_refusal refusal.error read
+
+abbrev pub unread : CertRefusal → Refusal
+unread refusal = unread_at refusal refusal.place
 
 -- ---- the certificate in an image's note
 

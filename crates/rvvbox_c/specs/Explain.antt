@@ -11,23 +11,22 @@ use Rattle.cert_note.specs.declared.refusals.CertError.{CertError}
 use Rattle.check_reasons.specs.Check.{IsListed, IsWanted, check_text}
 use Rattle.check_reasons.specs.declared.check.CheckReason.{CheckReason}
 use Rattle.elf_image.specs.Error.{error_text}
+use Rattle.elf_image.specs.Evidence.{refusal_of}
 use Rattle.elf_image.specs.Faults.{fault_of}
 use Rattle.elf_image.specs.File.{image_of}
 use Rattle.elf_image.specs.Image.{ImageView}
 use Rattle.elf_image.specs.declared.error.ElfError.{ElfError}
+use Rattle.elf_image.specs.declared.evidence.ElfRefusal.{ElfRefusal}
 use Rattle.explanations.specs.Certificate.{IsReason, certificate_text}
-use Rattle.explanations.specs.Image.{Tells, image_text}
+use Rattle.explanations.specs.Image.{image_text}
 use Rattle.explanations.specs.Refusal.{told}
 use Rattle.explanations.specs.declared.certificate.CertificateReason.{CertificateReason}
-use Rattle.explanations.specs.declared.image.ImageReason.{ImageReason}
 use Rattle.vreg_groups.specs.declared.vector_length.Vlen.{Vlen}
 use Rattle.rvvbox_c.specs.Accept.{vlen_at}
 
 -- of a file that is no image
-abbrev pub IsTextOfFault : List ℕ → ElfError → List ℕ → Type 0
-IsTextOfFault file error text =
-    (reason : ImageReason) × Tells file error reason
-    × (text ≡ told (error_text error) (image_text reason))
+abbrev pub text_of_fault : ElfRefusal → List ℕ
+text_of_fault refusal = told (error_text refusal.error) (image_text refusal.evidence)
 
 -- of a note that spells no certificate
 abbrev pub IsTextOfReading : List ℕ → CertError → List ℕ → Type 0
@@ -67,7 +66,7 @@ abbrev pub IsTextOfImage : Vlen → ImageView → List ℕ → Type 0
 IsTextOfImage vlen image text = IsTextOfNote vlen image text image.certificate
 
 abbrev pub IsTextIf : Vlen → List ℕ → List ℕ → Option ElfError → Type 0
-IsTextIf vlen file text (Some fault) = IsTextOfFault file fault text
+IsTextIf vlen file text (Some fault) = text ≡ text_of_fault (refusal_of file fault)
 IsTextIf vlen file text None = IsTextOfImage vlen (image_of file) text
 
 -- of a file, for vector registers of this length

@@ -1,11 +1,10 @@
 //! An image with its certificate, out of a file's bytes.
 ghost use Rattle.std.specs.Prelude.{◌≡◌, ◌*◌, IfErr, IfOk, IfSome, IsErrAnd};
-ghost use Rattle.rvvbox_c.specs.Accept.{IsRefusalOf, Tells, Unread, accepted_of, agnostic_at};
-ghost use Rattle.rvvbox_c.specs.Accept.{certificate_in as certificate_of, vlen_at};
+ghost use Rattle.rvvbox_c.specs.Accept.{IsRefusalOf, accepted_of, agnostic_at};
+ghost use Rattle.rvvbox_c.specs.Accept.{certificate_in as certificate_of, unread, vlen_at};
 ghost use Rattle.block_checker.specs.Accepted.{Passes};
 ghost use Rattle.elf_image.specs.Faults.{fault_of};
 ghost use Rattle.elf_image.specs.File.{image_of};
-ghost use Rattle.explanations.specs.Certificate.{IsOfBytes, IsTold};
 ghost use Rattle.vreg_groups.specs.VectorLength.{vlenb_of};
 ghost use Rattle.rvvbox_c.specs.Holds.{IsFailure};
 ghost use Rattle.rvvbox_c.specs.Runs.{number_of};
@@ -13,10 +12,9 @@ ghost use Rattle.rvvbox_c.specs.Status.{image_refusal};
 
 use crate::status::{Refusal, Status};
 use block_checker::{Accepted, check};
-use cert_note::{CertError, Certificate};
+use cert_note::{CertRefusal, Certificate};
 use elf_image::Image;
-use explanations::certificate_reason;
-use std::alloc::{AllocError, Global};
+use std::alloc::Global;
 use vreg_groups::{Agnostic, Vlen};
 
 /// The length of vector registers of so many bits.
@@ -44,16 +42,14 @@ pub(crate) fn agnostic_of(number: u32) -> Option<Agnostic>
     }
 }
 
-/// Why bytes are no certificate, with how many of them are read when they tell the error.
-fn unread(alloc: Global, note: &[u8], error: CertError) -> Result<Refusal, AllocError>
-    requires error { IsOfBytes error }
-    requires told { IsTold note.now error }
-    ensures told { IfOk result (Tells (Unread note.now error)) }
-    ensures failed { IfOk result (λ refusal. IsFailure refusal.status) }
+/// Why bytes are no certificate, with how many of them were read when they told the error.
+fn unread(refusal: CertRefusal) -> Refusal
+    ensures told { result ≡ unread refusal }
+    ensures failed { IsFailure result.status }
 {
-    match certificate_reason(alloc, note, error)?.place {
-        Some(read) => Ok(Refusal::unread(error, read)),
-        None => unreachable!(),
+    match refusal.place {
+        Some(read) => Refusal::unread(refusal.error, read),
+        None => Refusal::of(Status::NoMemory),
     }
 }
 
@@ -66,10 +62,9 @@ fn certificate_in(alloc: Global, image: &Image) -> Result<Certificate, Refusal>
     let Some(note) = image.certificate() else {
         return Err(Refusal::of(Status::NoCertificate));
     };
-    match cert_note::read(alloc, note) {
+    match cert_note::read_kept(alloc, note) {
         Ok(certificate) => Ok(certificate),
-        Err(CertError::NoMemory) => Err(Refusal::of(Status::NoMemory)),
-        Err(error) => Err(unread(alloc, note, error)?),
+        Err(refusal) => Err(unread(refusal)),
     }
 }
 

@@ -1,37 +1,42 @@
 //! Why a file is refused, in words that a host reads.
 ghost use Rattle.std.specs.Prelude.{◌≡◌, IfErr, IfOk, IfSome, string_bytes, unwrap_or};
 ghost use Rattle.rvvbox_c.specs.Answers.{length_fault};
-ghost use Rattle.rvvbox_c.specs.Explain.{HasExplained, IsTextFor, IsTextOfCheck, IsTextOfFault};
-ghost use Rattle.rvvbox_c.specs.Explain.{IsTextOfImage, IsTextOfReading, put_over};
+ghost use Rattle.cert_note.specs.Reading.{IsRefusal};
+ghost use Rattle.rvvbox_c.specs.Explain.{HasExplained, IsTextFor, IsTextOfCheck, IsTextOfImage};
+ghost use Rattle.rvvbox_c.specs.Explain.{IsTextOfReading, put_over, text_of_fault};
 ghost use Rattle.rvvbox_c.specs.Holds.{IsFailure};
 ghost use Rattle.rvvbox_c.specs.Status.{IsStatusOrWant, code_of};
 ghost use Rattle.rvvbox_c.specs.declared.status.Status.TheVariants.{Done, NoMemory};
 
 use crate::accept::vlen_of;
 use crate::status::Status;
-use cert_note::{CertError, Certificate};
+use cert_note::{CertError, CertRefusal, Certificate};
 use check_reasons::check_reason;
-use elf_image::{ElfError, Image};
-use explanations::{Refusal, certificate_reason, image_reason};
+use elf_image::{ElfError, ElfRefusal, Image};
+use explanations::{ImageReason, Refusal, refusal_reason};
 use std::alloc::Global;
 use vreg_groups::Vlen;
 
 /// Why a file is no image.
-fn text_of_fault(alloc: Global, file: &[u8], error: ElfError) -> Result<String, Status>
-    ensures text { IfOk result (λ text. IsTextOfFault file.now error (string_bytes text)) }
+fn text_of_fault(alloc: Global, refusal: ElfRefusal) -> Result<String, Status>
+    ensures text { IfOk result (λ text. string_bytes text ≡ text_of_fault refusal) }
     ensures want { IfErr result (λ status. status ≡ NoMemory) }
 {
-    let reason = image_reason(file, error);
+    let ElfRefusal { error, evidence } = refusal;
+    let reason = ImageReason(evidence);
     let refusal = Refusal { error, reason };
     Ok(format!(in alloc; "{refusal}")?)
 }
 
 /// Why a note spells no certificate.
-fn text_of_reading(alloc: Global, note: &[u8], error: CertError) -> Result<String, Status>
-    ensures text { IfOk result (λ text. IsTextOfReading note.now error (string_bytes text)) }
+fn text_of_reading(alloc: Global, note: &[u8], refusal: CertRefusal) -> Result<String, Status>
+    requires { IsRefusal note.now refusal }
+    ensures text { IfOk result (λ text.
+        IsTextOfReading note.now refusal.error (string_bytes text)) }
     ensures want { IfErr result (λ status. status ≡ NoMemory) }
 {
-    let reason = certificate_reason(alloc, note, error)?;
+    let error = refusal.error;
+    let reason = refusal_reason(note, refusal);
     let refusal = Refusal { error, reason };
     Ok(format!(in alloc; "{refusal}")?)
 }
@@ -65,10 +70,14 @@ fn text_of_image(alloc: Global, image: &Image, vlen: Vlen) -> Result<String, Sta
     let Some(note) = image.certificate() else {
         return Ok(format!(in alloc; "  wanted: a note with a certificate\n")?);
     };
-    match cert_note::read(alloc, note) {
+    match cert_note::read_kept(alloc, note) {
         Ok(certificate) => text_of_check(alloc, image, &certificate, vlen),
-        Err(CertError::NoMemory) => Err(Status::NoMemory),
-        Err(error) => text_of_reading(alloc, note, error),
+        Err(refusal) => {
+            if let CertError::NoMemory = refusal.error {
+                return Err(Status::NoMemory);
+            }
+            text_of_reading(alloc, note, refusal)
+        }
     }
 }
 
@@ -77,10 +86,14 @@ fn text_for(alloc: Global, file: &[u8], vlen: Vlen) -> Result<String, Status>
     ensures text { IfOk result (λ text. IsTextFor vlen file.now (string_bytes text)) }
     ensures want { IfErr result (λ status. status ≡ NoMemory) }
 {
-    match elf_image::read(alloc, file) {
+    match elf_image::read_kept(alloc, file) {
         Ok(image) => text_of_image(alloc, &image, vlen),
-        Err(ElfError::NoMemory) => Err(Status::NoMemory),
-        Err(error) => text_of_fault(alloc, file, error),
+        Err(refusal) => {
+            if let ElfError::NoMemory = refusal.error {
+                return Err(Status::NoMemory);
+            }
+            text_of_fault(alloc, refusal)
+        }
     }
 }
 

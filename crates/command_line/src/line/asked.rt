@@ -1,6 +1,7 @@
 //! What a command line asks for.
 ghost use Rattle.std.specs.Prelude.{◌≡◌, ◌⊎◌, true, false};
 ghost use Rattle.rv_listing.specs.Sinks.{IsCounted};
+ghost use Rattle.commands.specs.Ending.{PassesOn};
 ghost use Rattle.commands.specs.Streams.{IsTold, stream};
 ghost use Rattle.commands.specs.Texts.{stop_text};
 ghost use Rattle.commands.specs.declared.stop.Stop.TheVariants as stop;
@@ -82,6 +83,7 @@ impl LineError {
         ensures done { result ≡ Status.Done →
             stream (E.contents errors.new) (E.failures errors.new)
             ≡ stream (E.contents errors.old) (E.failures errors.old) }
+        ensures passed { PassesOn result (O.passed output.new) (O.contents output.new) }
     {
         let LineError::Usage(error) = self else {
             return Stop::Memory.tell(errors);

@@ -1,8 +1,8 @@
 //! Why certificates and images are refused: those of the kernel that sums bytes, with a byte changed.
 use crate::tests::assertions::{assert_shows, found, given};
-use cert_note::{Budget, CertError, Vlen};
+use cert_note::{Budget, Vlen, read_kept};
 use check_reasons::{CheckReason, check_reason};
-use explanations::certificate_reason;
+use explanations::refusal_reason;
 use hex::decode;
 use sample_kernels::SUM;
 use std::alloc::Global;
@@ -25,7 +25,8 @@ fn changed(rt: impl Abort + Copy, alloc: Global, digits: &str, place: usize, byt
 #[test]
 fn tells_a_place_in_a_certificate(rt: HostRuntime) {
     let bytes = changed(rt, rt.alloc(), SUM.certificate, 169, 0);
-    let reason = given!(rt; certificate_reason(rt.alloc(), &bytes, CertError::BlockOrder));
+    let refusal = found!(rt; read_kept(rt.alloc(), &bytes).err());
+    let reason = refusal_reason(&bytes, refusal);
     let expected = "  reading stopped behind byte 171 of 261
   the last bytes read: 0x04 0x00 0x00 0x00
   in block 1, counted from 0

@@ -4,7 +4,7 @@ use crate::refusing::Refusing;
 use crate::tests::assertions::{assert_same, found, given};
 use crate::tests::kernels::{bytes_of, file_of, put};
 use crate::tests::readme::RAISE;
-use cert_maker::{MakeError, make_in};
+use cert_maker::{LoopRow, MakeError, MakeRefusal, make_in, make_kept};
 use cert_note::{CertError, Certificate, Vlen};
 use elf_image::{ElfError, Image, attach};
 use region_mem::{Mode, Param, Parameters};
@@ -249,10 +249,17 @@ fn writing_a_certificate(rt: HostRuntime) {
 }
 
 /// Asserts that no certificate is made for parameters that are too short: the load's fault, which
-/// is told before any memory is asked for.
+/// is told before any memory is asked for. The load is kept.
 fn expect_unmade(rt: impl Abort + Copy, heap: Heap<'_>, image: &Image, short: &Parameters) {
     let refused = make_in(heap, image, short, Vlen::V128).err();
     assert_same!(rt; refused, Some(MakeError::NotALoopOfTheClass(0x1_0008)));
+    let refused = make_kept(heap, image, short, Vlen::V128).err();
+    let Some(MakeRefusal::Misfit(misfit)) = refused else {
+        panic!(rt; "no misfit");
+    };
+    assert_same!(rt; misfit.pc, 0x1_0008);
+    assert_same!(rt; misfit.word, Some(0x0205_6407));
+    assert!(rt; matches!(misfit.row, LoopRow::Access));
     assert_same!(rt; heap.has_refused(), false);
 }
 

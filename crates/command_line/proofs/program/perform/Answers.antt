@@ -2,7 +2,7 @@ use Rattle.std.proofs.Common.{ap, map, refl}
 use Rattle.clap.specs.Words.{fault_of}
 use Rattle.command_line.specs.Asked.{is_request}
 use Rattle.command_line.specs.Line.{app}
-use Rattle.commands.specs.Files.{files_of}
+use Rattle.file_store.specs.Store.{files_of}
 use Rattle.command_line.proofs.ProgramLemmas.{asked_for, asked_nothing, fits_any, refusal_any, refusal_for, silent_any, silent_for, told_for, touched, untouched}
 use Rattle.command_line.proofs.program.perform.Goals as goal
 

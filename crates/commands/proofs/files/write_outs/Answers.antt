@@ -1,6 +1,6 @@
 use Rattle.std.proofs.Common.{rules, ◌≡◌, add-one}
 use Rattle.std.proofs.lemmas.Result.{err_from_is_err_and}
-use Rattle.commands.specs.Files.{files_of}
+use Rattle.file_store.specs.Store.{files_of}
 use Rattle.commands.specs.WrittenLemmas.{outs_all, outs_fail, outs_more}
 use Rattle.commands.proofs.files.write_outs.Goals as goal
 

@@ -1,7 +1,7 @@
 use Rattle.std.proofs.Common.{map, take}
 use Rattle.job_file.specs.Needs.{run_param_lent}
 use Rattle.commands.specs.Files.{outs_of}
-use Rattle.commands.specs.Written.{Gains}
+use Rattle.file_store.specs.Written.{Gains}
 use Rattle.commands.proofs.files.write_outs.Given as goal
 
 -- the out files of the places so far were written

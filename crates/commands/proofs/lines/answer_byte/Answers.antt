@@ -10,6 +10,9 @@ returns-in-Ok-clause-answered g c is = goes-byte _ _ _ _ _ _ (search rules) (sea
 pub returns-clause-answered : goal.returns-clause-answered
 returns-clause-answered g c = search (rules, goes-line)
 
+pub returns-clause-passed : goal.returns-clause-passed
+returns-clause-passed g c was = c.in_ok-flow.ensures.passed
+
 pub returns-in-Err-clause-unanswered : goal.returns-in-Err-clause-unanswered
 returns-in-Err-clause-unanswered g c is = broken-byte g.row.VLENB _ _ _ _ _ refl is
 

@@ -7,7 +7,7 @@ use Rattle.monitor.specs.declared.commands.Flow.TheVariants as flow
 use Rattle.commands.proofs.lines.answer_bytes.Goals as goal
 
 pub loop-byte-init : goal.loop-byte-init
-loop-byte-init g c = record { same = refl; first = refl; goes = goes-none g.row.VLENB c.args.line.now.items _ _ }
+loop-byte-init g c = record { same = refl; first = refl; passed = λ was. was; goes = goes-none g.row.VLENB c.args.line.now.items _ _ }
 
 pub returns-in_err-answer_byte-clause-unanswered : goal.returns-in_err-answer_byte-clause-unanswered
 returns-in_err-answer_byte-clause-unanswered g c =
@@ -21,10 +21,14 @@ returns-in-Quit-clause-answered g c is =
     (goes-step g.row.VLENB c.args.line.now.items c.args.bytes.now c.loop-byte.byte-index 0 c.loop-byte.line.items c.answer_byte.new.line.items _ (stream (g.O.Sink.contents c.loop-byte.output) (g.O.Sink.failures c.loop-byte.output)) _ _ _ _ flow.Quit _ c.in-Quit.is
     (search rules) (c.loop-byte.invariant.goes is) c.in_ok-answer_byte.ensures.answered)
 
+pub returns-in-Quit-clause-passed : goal.returns-in-Quit-clause-passed
+returns-in-Quit-clause-passed g c was = c.in_ok-answer_byte.ensures.passed (c.loop-byte.invariant.passed was)
+
 pub loop-byte-preserved : goal.loop-byte-preserved
 loop-byte-preserved g c = record {
   same = search rules;
   first = search rules;
+  passed = λ was. c.in_ok-answer_byte.ensures.passed (c.loop-byte.invariant.passed was);
   goes = λ is. goes-step g.row.VLENB c.args.line.now.items c.args.bytes.now c.loop-byte.byte-index 0 c.loop-byte.line.items _ _ (stream (g.O.Sink.contents c.loop-byte.output) (g.O.Sink.failures c.loop-byte.output)) _ _ _ _ flow.Go _ c.in-Go.is
       (search rules) (c.loop-byte.invariant.goes is) c.in_ok-answer_byte.ensures.answered;
 }

@@ -7,35 +7,35 @@ use Rattle.commands.proofs.CommandLemmas.{handed_on, made_whole, or_ok, unasked_
 use Rattle.commands.specs.WrittenLemmas.{gains_after, gains_none, nothing, unwritten_now}
 use Rattle.commands.proofs.makes.make_table.Goals as goal
 
-pub returns-in_err-job : goal.returns-in_err-job
-returns-in_err-job g c =
+pub returns-in_err-job-clause-done : goal.returns-in_err-job-clause-done
+returns-in_err-job-clause-done g c =
     handed_on _ _ _ _ c.from_residual.ensures.1 (inl ((unasked_self _ _ _ c.make_job_in.ensures c.in_err-job.ensures.0, c.in_err-job.ensures.1), (gains_none _, refl)))
 
-pub returns-in_err-file : goal.returns-in_err-file
-returns-in_err-file g c =
+pub returns-in_err-file-clause-done : goal.returns-in_err-file-clause-done
+returns-in_err-file-clause-done g c =
     let asked : make_job_in (table_view c.args.table.now) ≡ Some c.in_ok-job.job = sym c.make_job_in.ensures ∙ c.in_ok-job.ensures in
     handed_on _ _ _ _ c.from_residual-in_err-file.ensures.1 (inr (c.in_ok-job.job, asked, inl (c.in_err-file.ensures.bytes, (nothing _ _ c.in_err-file.ensures.files, refl))))
 
-pub returns-in_err-image : goal.returns-in_err-image
-returns-in_err-image g c =
+pub returns-in_err-image-clause-done : goal.returns-in_err-image-clause-done
+returns-in_err-image-clause-done g c =
     let asked : make_job_in (table_view c.args.table.now) ≡ Some c.in_ok-job.job = sym c.make_job_in.ensures ∙ c.in_ok-job.ensures in
     handed_on _ _ _ _ c.from_residual-in_err-image.ensures.1 (inr (c.in_ok-job.job, asked, inr (c.in_ok-file.file.items, c.in_ok-file.ensures.bytes, inl (rw (← c.as_slice.ensures.value) (c.in_err-image.ensures.image, c.in_err-image.ensures.told), (nothing _ _ c.in_ok-file.ensures.files, refl)))))
 
-pub returns-in_err-bytes : goal.returns-in_err-bytes
-returns-in_err-bytes g c =
+pub returns-in_err-bytes-clause-done : goal.returns-in_err-bytes-clause-done
+returns-in_err-bytes-clause-done g c =
     let asked : make_job_in (table_view c.args.table.now) ≡ Some c.in_ok-job.job = sym c.make_job_in.ensures ∙ c.in_ok-job.ensures in
     let image = or_ok (image_in c.as_slice.result.now) c.in_ok-image.image c.in_ok-image.ensures.image in
     handed_on _ _ _ _ c.from_residual-in_err-bytes.ensures.1 (inr (c.in_ok-job.job, asked, inr (c.in_ok-file.file.items, c.in_ok-file.ensures.bytes, inr (c.in_ok-image.image, rw (← c.as_slice.ensures.value) image, inl (rw (← c.as_slice-2.ensures.value) ((c.in_err-bytes.ensures.certificate, c.in_err-bytes.ensures.answer), c.in_err-bytes.ensures.told), (nothing _ _ c.in_ok-file.ensures.files, refl))))))
 
-pub returns-in_err-read_back : goal.returns-in_err-read_back
-returns-in_err-read_back g c =
+pub returns-in_err-read_back-clause-done : goal.returns-in_err-read_back-clause-done
+returns-in_err-read_back-clause-done g c =
     let asked : make_job_in (table_view c.args.table.now) ≡ Some c.in_ok-job.job = sym c.make_job_in.ensures ∙ c.in_ok-job.ensures in
     let image = or_ok (image_in c.as_slice.result.now) c.in_ok-image.image c.in_ok-image.ensures.image in
     let made = want_ok (made_for c.in_ok-job.job c.as_slice-2.result.now c.in_ok-image.image) c.in_ok-bytes.bytes.items c.in_ok-bytes.ensures.answer in
     handed_on _ _ _ _ c.from_residual-in_err-read_back.ensures.1 (inr (c.in_ok-job.job, asked, inr (c.in_ok-file.file.items, c.in_ok-file.ensures.bytes, inr (c.in_ok-image.image, rw (← c.as_slice.ensures.value) image, inr (c.in_ok-bytes.bytes.items, rw (← c.as_slice-2.ensures.value) made, inl (rw (← c.as_slice-3.ensures.value) ((c.in_err-read_back.ensures.image, c.in_err-read_back.ensures.answer), c.in_err-read_back.ensures.told), (nothing _ _ c.in_ok-file.ensures.files, refl)))))))
 
-pub returns-in_err-write : goal.returns-in_err-write
-returns-in_err-write g c =
+pub returns-in_err-write-clause-done : goal.returns-in_err-write-clause-done
+returns-in_err-write-clause-done g c =
     let asked : make_job_in (table_view c.args.table.now) ≡ Some c.in_ok-job.job = sym c.make_job_in.ensures ∙ c.in_ok-job.ensures in
     let image = or_ok (image_in c.as_slice.result.now) c.in_ok-image.image c.in_ok-image.ensures.image in
     let made = want_ok (made_for c.in_ok-job.job c.as_slice-2.result.now c.in_ok-image.image) c.in_ok-bytes.bytes.items c.in_ok-bytes.ensures.answer in
@@ -43,8 +43,8 @@ returns-in_err-write g c =
     let why = unwritten_now _ _ _ _ c.in_ok-file.ensures.files c.in_err-write.ensures.1 in
     handed_on _ _ _ _ c.from_residual-in_err-write.ensures.1 (inr (c.in_ok-job.job, asked, inr (c.in_ok-file.file.items, c.in_ok-file.ensures.bytes, inr (c.in_ok-image.image, rw (← c.as_slice.ensures.value) image, inr (c.in_ok-bytes.bytes.items, rw (← c.as_slice-2.ensures.value) made, inr (c.in_ok-read_back.field-0, rw (← c.as_slice-3.ensures.value) accepted, inl (why, (nothing _ _ (c.in_err-write.ensures.0 ∙ c.in_ok-file.ensures.files), refl))))))))
 
-pub returns-in-Ok : goal.returns-in-Ok
-returns-in-Ok g c =
+pub returns-in-Ok-clause-done : goal.returns-in-Ok-clause-done
+returns-in-Ok-clause-done g c =
     let asked : make_job_in (table_view c.args.table.now) ≡ Some c.in_ok-job.job = sym c.make_job_in.ensures ∙ c.in_ok-job.ensures in
     let image = or_ok (image_in c.as_slice.result.now) c.in_ok-image.image c.in_ok-image.ensures.image in
     let made = want_ok (made_for c.in_ok-job.job c.as_slice-2.result.now c.in_ok-image.image) c.in_ok-bytes.bytes.items c.in_ok-bytes.ensures.answer in
@@ -65,8 +65,8 @@ returns-in-Ok g c =
       done = refl;
     }
 
-pub returns : goal.returns
-returns g c =
+pub returns-clause-done : goal.returns-clause-done
+returns-clause-done g c =
     let asked : make_job_in (table_view c.args.table.now) ≡ Some c.in_ok-job.job = sym c.make_job_in.ensures ∙ c.in_ok-job.ensures in
     let image = or_ok (image_in c.as_slice.result.now) c.in_ok-image.image c.in_ok-image.ensures.image in
     let made = want_ok (made_for c.in_ok-job.job c.as_slice-2.result.now c.in_ok-image.image) c.in_ok-bytes.bytes.items c.in_ok-bytes.ensures.answer in

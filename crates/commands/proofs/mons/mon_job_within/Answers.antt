@@ -1,10 +1,11 @@
 use Rattle.std.proofs.Common.{inl, inr, refl, Err, MatchResult, Option, subst}
 use Rattle.toml.specs.View.{table_view}
-use Rattle.commands.specs.Files.{files_of}
+use Rattle.file_store.specs.Store.{files_of}
 use Rattle.commands.specs.Mons.{Mons, StopsMon}
-use Rattle.commands.specs.Streams.{exchange, source, stream}
-use Rattle.commands.specs.Written.{Gains, Held}
-use Rattle.commands.proofs.CommandLemmas.{ends_as, ends_by}
+use Rattle.commands.specs.Streams.{exchange, stream}
+use Rattle.file_store.specs.Sources.{source}
+use Rattle.file_store.specs.Written.{Gains, Held}
+use Rattle.commands.proofs.CommandLemmas.{did_so, ends_as, ends_by}
 use Rattle.commands.specs.WrittenLemmas.{nothing}
 use Rattle.commands.proofs.mons.mon_job_within.Goals as goal
 
@@ -20,3 +21,10 @@ returns-in-Ok-clause-ends g c =
 pub returns-in-Err-clause-ends : goal.returns-in-Err-clause-ends
 returns-in-Err-clause-ends g c =
     ends_as (Err c.in-Err.halt) c.ended-in-Err.ensures.status c.ended-in-Err.ensures.told (inl (c.in-Err.ensures.table, (nothing _ _ c.in-Err.ensures.files, (refl, refl))))
+
+pub returns-in-Ok-clause-passed : goal.returns-in-Ok-clause-passed
+returns-in-Ok-clause-passed g c was ended =
+    did_so c.mon_table-done.result _ c.ended.ensures.status c.mon_table-done.ensures.passed ended was
+
+pub returns-in-Err-clause-passed : goal.returns-in-Err-clause-passed
+returns-in-Err-clause-passed g c was = did_so (Err c.in-Err.halt) _ c.ended-in-Err.ensures.status tt

@@ -8,7 +8,7 @@ pub returns-in_ok-watch-in-Ok-clause-stopped : goal.returns-in_ok-watch-in-Ok-cl
 returns-in_ok-watch-in-Ok-clause-stopped g c =
     let fault = open_fault g.row.VLENB c.args.ready.now.accepted c.args.args.places c.args.ready.now.job.max in
     stopped g.row.VLENB c.args.ready.now.job.agnostic c.args.ready.now.job.max c.args.ready.now.accepted c.args.args.places fault _ c.in-Ok.session c.watch.new.session c.close.result.places
-    refl c.in-Ok.ensures.refused c.in-Ok.ensures.opened c.in_ok-watch-in-Ok.ensures.talks c.in_ok-watch-in-Ok.ensures.first c.stands.ensures.stop c.close.ensures.places
+    refl c.in-Ok.ensures.refused c.in-Ok.ensures.opened c.in_ok-watch-in-Ok.ensures.talks c.in_ok-watch-in-Ok.ensures.heard c.in_ok-watch-in-Ok.ensures.first c.stands.ensures.stop c.close.ensures.places
 
 pub returns-in_err-watch-in-Ok-clause-stopped : goal.returns-in_err-watch-in-Ok-clause-stopped
 returns-in_err-watch-in-Ok-clause-stopped g c =

@@ -1,10 +1,11 @@
 use Rattle.std.proofs.Common.{inl, inr, refl}
 use Rattle.job_file.specs.Needs.{run_job_lent}
 use Rattle.job_reasons.specs.declared.job.Command.TheVariants as command
-use Rattle.commands.specs.Files.{files_of}
+use Rattle.file_store.specs.Store.{files_of}
 use Rattle.commands.specs.Mons.{BeforeAll, StopsWatched}
-use Rattle.commands.specs.Streams.{exchange, source, stream}
-use Rattle.commands.specs.Written.{Gains}
+use Rattle.commands.specs.Streams.{exchange, stream}
+use Rattle.file_store.specs.Sources.{source}
+use Rattle.file_store.specs.Written.{Gains}
 use Rattle.commands.proofs.CommandLemmas.{handed_on, stops_started, unstarted, unwritten_after}
 use Rattle.commands.specs.WrittenLemmas.{gains_after, nothing}
 use Rattle.commands.proofs.mons.mon_table.Goals as goal

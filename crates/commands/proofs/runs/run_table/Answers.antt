@@ -1,6 +1,6 @@
 use Rattle.std.proofs.Common.{rules, ◌≡◌, ◌∙◌, None, inl, refl}
 use Rattle.job_file.specs.Needs.{run_job_lent}
-use Rattle.commands.specs.Files.{files_of}
+use Rattle.file_store.specs.Store.{files_of}
 use Rattle.job_reasons.specs.declared.job.Command.TheVariants as command
 use Rattle.commands.specs.Runs.{ExplainsRun, StopsRan, run_of_job}
 use Rattle.commands.specs.Streams.{Wrote, change, stream}
@@ -9,21 +9,21 @@ use Rattle.commands.specs.WrittenLemmas.{nothing}
 use Rattle.commands.proofs.WhyLemmas.{memory_opened}
 use Rattle.commands.proofs.runs.run_table.Goals as goal
 
-pub returns-in_err-ready : goal.returns-in_err-ready
-returns-in_err-ready g c =
+pub returns-in_err-ready-clause-done : goal.returns-in_err-ready-clause-done
+returns-in_err-ready-clause-done g c =
     handed_on _ _ _ _ c.from_residual.ensures.1 (unstarted command.Run (files_of (g.S.Store.held c.args.store.now)) (Wrote (change (g.S.Store.held c.args.store.now) (g.S.Store.held c.started.new.store) (stream (g.O.Sink.contents c.args.output.now) (g.O.Sink.failures c.args.output.now)) (stream (g.O.Sink.contents c.args.output.now) (g.O.Sink.failures c.args.output.now)))) (StopsRan (files_of (g.S.Store.held c.args.store.now)) c.args.registers (change (g.S.Store.held c.args.store.now) (g.S.Store.held c.started.new.store) (stream (g.O.Sink.contents c.args.output.now) (g.O.Sink.failures c.args.output.now)) (stream (g.O.Sink.contents c.args.output.now) (g.O.Sink.failures c.args.output.now)))) _ _ _ c.in_err-ready.ensures.start (nothing _ _ c.in_err-ready.ensures.files, refl))
 
-pub returns-in_err-trial : goal.returns-in_err-trial
-returns-in_err-trial g c =
+pub returns-in_err-trial-clause-done : goal.returns-in_err-trial-clause-done
+returns-in_err-trial-clause-done g c =
     handed_on _ _ _ _ c.from_residual-in_err-trial.ensures.1 (stops_started command.Run (files_of (g.S.Store.held c.args.store.now)) (Wrote (change (g.S.Store.held c.args.store.now) (g.S.Store.held c.started.new.store) (stream (g.O.Sink.contents c.args.output.now) (g.O.Sink.failures c.args.output.now)) (stream (g.O.Sink.contents c.args.output.now) (g.O.Sink.failures c.args.output.now)))) (StopsRan (files_of (g.S.Store.held c.args.store.now)) c.args.registers (change (g.S.Store.held c.args.store.now) (g.S.Store.held c.started.new.store) (stream (g.O.Sink.contents c.args.output.now) (g.O.Sink.failures c.args.output.now)) (stream (g.O.Sink.contents c.args.output.now) (g.O.Sink.failures c.args.output.now)))) _ _ _ _ _ _ c.in_ok-ready.ensures.start (inl ((c.in_err-trial.ensures.answer, c.in_err-trial.ensures.told), (nothing _ _ c.in_ok-ready.ensures.files, refl))))
 
-pub returns-in_err-shown : goal.returns-in_err-shown
-returns-in_err-shown g c =
+pub returns-in_err-shown-clause-done : goal.returns-in_err-shown-clause-done
+returns-in_err-shown-clause-done g c =
     let comes = unshown _ _ _ c.in_ok-trial.ensures.answer c.in_err-shown.ensures.memory in
     handed_on _ _ _ _ c.from_residual-in_err-shown.ensures.1 (stops_started command.Run (files_of (g.S.Store.held c.args.store.now)) (Wrote (change (g.S.Store.held c.args.store.now) (g.S.Store.held c.started.new.store) (stream (g.O.Sink.contents c.args.output.now) (g.O.Sink.failures c.args.output.now)) (stream (g.O.Sink.contents c.args.output.now) (g.O.Sink.failures c.args.output.now)))) (StopsRan (files_of (g.S.Store.held c.args.store.now)) c.args.registers (change (g.S.Store.held c.args.store.now) (g.S.Store.held c.started.new.store) (stream (g.O.Sink.contents c.args.output.now) (g.O.Sink.failures c.args.output.now)) (stream (g.O.Sink.contents c.args.output.now) (g.O.Sink.failures c.args.output.now)))) _ _ _ _ _ _ c.in_ok-ready.ensures.start (inl ((comes, memory_opened _ _ _ _ _ c.in_err-shown.ensures.memory), (nothing _ _ c.in_ok-ready.ensures.files, refl))))
 
-pub returns : goal.returns
-returns g c =
+pub returns-clause-done : goal.returns-clause-done
+returns-clause-done g c =
     let job = run_job_lent c.in_ok-ready.field-0.ready.job in
     let left = (change (g.S.Store.held c.args.store.now) (g.S.Store.held c.finish.new.store) (stream (g.O.Sink.contents c.args.output.now) (g.O.Sink.failures c.args.output.now)) (stream (g.O.Sink.contents c.finish.new.output) (g.O.Sink.failures c.finish.new.output))) in
     let text : c.as_slice.result.now ≡ c.in_ok-shown.shown.items = search rules in

@@ -1,24 +1,30 @@
 use Rattle.std.proofs.Common.{inl, inr, refl, Err, MatchResult, Option, subst}
 use Rattle.toml.specs.View.{table_view}
-use Rattle.commands.specs.Files.{files_of}
+use Rattle.file_store.specs.Store.{files_of}
 use Rattle.commands.specs.Tries.{StopsTry, Tries}
 use Rattle.commands.specs.Streams.{change, stream}
-use Rattle.commands.specs.Written.{Held}
-use Rattle.commands.proofs.CommandLemmas.{ends_as, ends_by}
+use Rattle.file_store.specs.Written.{Held}
+use Rattle.commands.proofs.CommandLemmas.{did_so, ends_as, ends_by}
 use Rattle.commands.specs.WrittenLemmas.{nothing}
 use Rattle.commands.proofs.tries.try_job.Goals as goal
 
-pub returns-in-Ok : goal.returns-in-Ok
-returns-in-Ok g c =
+pub returns-in-Ok-clause-ends : goal.returns-in-Ok-clause-ends
+returns-in-Ok-clause-ends g c =
     let has = g.S.Store.held c.try_table-done.new.store in
     let old = (stream (g.O.Sink.contents c.args.output.now) (g.O.Sink.failures c.args.output.now)) in
     let new = (stream (g.O.Sink.contents c.try_table-done.new.output) (g.O.Sink.failures c.try_table-done.new.output)) in
     let came = subst (λ (h : Option Held). MatchResult c.try_table-done.result
     (Tries (files_of h) c.args.registers (table_view c.in-Ok.file.table) (change h has old new))
     (StopsTry (files_of h) c.args.registers (change h has old new) c.as_slice-text.result.now (table_view c.in-Ok.file.table)))
-    c.in-Ok.ensures.files c.try_table-done.ensures in
+    c.in-Ok.ensures.files c.try_table-done.ensures.done in
     ends_by c.try_table-done.result _ _ c.ended.ensures.status c.ended.ensures.told came (λ did it. (table_view c.in-Ok.file.table, (c.in-Ok.file.text.items, c.in-Ok.ensures.table.0, c.in-Ok.ensures.table.1), it)) (λ why it. inr (c.as_slice-text.result.now, table_view c.in-Ok.file.table, rw (c.as_slice-text.ensures.value) c.in-Ok.ensures.table, it))
 
-pub returns-in-Err : goal.returns-in-Err
-returns-in-Err g c =
+pub returns-in-Err-clause-ends : goal.returns-in-Err-clause-ends
+returns-in-Err-clause-ends g c =
     ends_as (Err c.in-Err.halt) c.ended-in-Err.ensures.status c.ended-in-Err.ensures.told (inl (c.in-Err.ensures.table, (nothing _ _ c.in-Err.ensures.files, refl)))
+
+pub returns-in-Ok-clause-passed : goal.returns-in-Ok-clause-passed
+returns-in-Ok-clause-passed g c = did_so c.try_table-done.result _ c.ended.ensures.status c.try_table-done.ensures.passed
+
+pub returns-in-Err-clause-passed : goal.returns-in-Err-clause-passed
+returns-in-Err-clause-passed g c = did_so (Err c.in-Err.halt) _ c.ended-in-Err.ensures.status tt

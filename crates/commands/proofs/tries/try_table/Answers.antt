@@ -9,36 +9,36 @@ use Rattle.commands.proofs.WhyLemmas.{memory_opened}
 use Rattle.commands.specs.WrittenLemmas.{gains_none, nothing}
 use Rattle.commands.proofs.tries.try_table.Goals as goal
 
-pub returns-in_err-job : goal.returns-in_err-job
-returns-in_err-job g c =
+pub returns-in_err-job-clause-done : goal.returns-in_err-job-clause-done
+returns-in_err-job-clause-done g c =
     handed_on _ _ _ _ c.from_residual.ensures.1 (inl ((unasked try_job_lent _ _ _ c.try_job_in.ensures c.in_err-job.ensures.0, c.in_err-job.ensures.1), (gains_none _, refl)))
 
-pub returns-in_err-image : goal.returns-in_err-image
-returns-in_err-image g c =
+pub returns-in_err-image-clause-done : goal.returns-in_err-image-clause-done
+returns-in_err-image-clause-done g c =
     let asked : try_job_in (table_view c.args.table.now) ≡ Some (try_job_lent c.in_ok-job.job) = asked_for try_job_lent _ _ _ c.try_job_in.ensures c.in_ok-job.ensures in
     handed_on _ _ _ _ c.from_residual-in_err-image.ensures.1 (inr (try_job_lent c.in_ok-job.job, asked, inl (c.in_err-image.ensures.image, (nothing _ _ c.in_err-image.ensures.files, refl))))
 
-pub returns-in_err-args : goal.returns-in_err-args
-returns-in_err-args g c =
+pub returns-in_err-args-clause-done : goal.returns-in_err-args-clause-done
+returns-in_err-args-clause-done g c =
     let asked : try_job_in (table_view c.args.table.now) ≡ Some (try_job_lent c.in_ok-job.job) = asked_for try_job_lent _ _ _ c.try_job_in.ensures c.in_ok-job.ensures in
     let unpassed = unpassed_after _ _ _ _ _ c.in_ok-image.ensures.files c.passed_params-passed.ensures c.in_err-args.ensures.passed in
     handed_on _ _ _ _ c.from_residual-in_err-args.ensures.1 (inr (try_job_lent c.in_ok-job.job, asked, inr (c.in_ok-image.image, c.in_ok-image.ensures.image, inl (unpassed, (nothing _ _ (c.in_err-args.ensures.files ∙ c.in_ok-image.ensures.files), refl)))))
 
-pub returns-in_err-trial : goal.returns-in_err-trial
-returns-in_err-trial g c =
+pub returns-in_err-trial-clause-done : goal.returns-in_err-trial-clause-done
+returns-in_err-trial-clause-done g c =
     let asked : try_job_in (table_view c.args.table.now) ≡ Some (try_job_lent c.in_ok-job.job) = asked_for try_job_lent _ _ _ c.try_job_in.ensures c.in_ok-job.ensures in
     let passed = passed_after _ _ _ _ _ c.in_ok-image.ensures.files c.passed_params-passed.ensures c.in_ok-args.ensures.passed in
     handed_on _ _ _ _ c.from_residual-in_err-trial.ensures.1 (inr (try_job_lent c.in_ok-job.job, asked, inr (c.in_ok-image.image, c.in_ok-image.ensures.image, inr (c.in_ok-args.args.places, passed, inl ((c.in_err-trial.ensures.answer, c.in_err-trial.ensures.told), (nothing _ _ (c.in_ok-args.ensures.files ∙ c.in_ok-image.ensures.files), refl))))))
 
-pub returns-in_err-shown : goal.returns-in_err-shown
-returns-in_err-shown g c =
+pub returns-in_err-shown-clause-done : goal.returns-in_err-shown-clause-done
+returns-in_err-shown-clause-done g c =
     let asked : try_job_in (table_view c.args.table.now) ≡ Some (try_job_lent c.in_ok-job.job) = asked_for try_job_lent _ _ _ c.try_job_in.ensures c.in_ok-job.ensures in
     let passed = passed_after _ _ _ _ _ c.in_ok-image.ensures.files c.passed_params-passed.ensures c.in_ok-args.ensures.passed in
     let comes = unshown _ _ _ c.in_ok-trial.ensures.answer c.in_err-shown.ensures.memory in
     handed_on _ _ _ _ c.from_residual-in_err-shown.ensures.1 (inr (try_job_lent c.in_ok-job.job, asked, inr (c.in_ok-image.image, c.in_ok-image.ensures.image, inr (c.in_ok-args.args.places, passed, inl ((comes, memory_opened _ _ _ _ _ c.in_err-shown.ensures.memory), (nothing _ _ (c.in_ok-args.ensures.files ∙ c.in_ok-image.ensures.files), refl))))))
 
-pub returns : goal.returns
-returns g c =
+pub returns-clause-done : goal.returns-clause-done
+returns-clause-done g c =
     let job = try_job_lent c.in_ok-job.job in
     let asked : try_job_in (table_view c.args.table.now) ≡ Some job = asked_for try_job_lent _ _ _ c.try_job_in.ensures c.in_ok-job.ensures in
     let passed = passed_after _ _ _ _ _ c.in_ok-image.ensures.files c.passed_params-passed.ensures c.in_ok-args.ensures.passed in

@@ -2,7 +2,6 @@
 use Rattle.std.specs.Prelude.{◌≡◌, ◌⊎◌, Some, Err}
 use Rattle.std.proofs.Common.{arith}
 use Rattle.std.proofs.lemmas.Grind.{common_steps}
-use Rattle.explanations.specs.Certificate.{IsTold}
 use Rattle.rvvbox_c.proofs.AcceptLemmas.{known_or_want, unread_there}
 use Rattle.rvvbox_c.specs.Accept.{Known, certificate_in}
 use Rattle.rvvbox_c.specs.Status.{plain}
@@ -15,13 +14,8 @@ returns-in_default-clause-refused c =
     ⊎ (c.of.result ≡ plain NoMemory) = grind (arith, common_steps) in
     known_or_want _ _ known
 
-pub returns-in_ok-unread-in-Err : goal.returns-in_ok-unread-in-Err
-returns-in_ok-unread-in-Err c =
+pub returns-in-Err-clause-refused : goal.returns-in-Err-clause-refused
+returns-in-Err-clause-refused c =
     let there : c.args.image.now.certificate ≡ Some c.in-Some.note.now =
     grind (arith, common_steps) in
-    let told : IsTold c.in-Some.note.now c.in-Err.error = grind (arith, common_steps) in
-    record {
-      found = tt;
-      refused = unread_there _ _ _ _ there told c.in_ok-unread-in-Err.ensures.told;
-      failed = c.in_ok-unread-in-Err.ensures.failed;
-    }
+    rw c.unread.ensures.told (unread_there _ _ _ there c.in-Err.ensures.refused)

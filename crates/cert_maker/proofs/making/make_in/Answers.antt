@@ -1,6 +1,0 @@
-use Rattle.std.proofs.Common.{arith}
-use Rattle.std.proofs.lemmas.Grind.{common_steps}
-use Rattle.cert_maker.proofs.making.make_in.Goals as goal
-
-pub returns-in-Err : goal.returns-in-Err
-returns-in-Err g c = grind (arith, common_steps)
