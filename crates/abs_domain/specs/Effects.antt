@@ -64,7 +64,7 @@ product_by a (Some k) b j = product_effect k a
 product_by a None b (Some j) = product_effect j b
 product_by a None b None = Fresh full_range
 
--- a shift to the left by an amount, of which the low five bits count, where it is known
+-- a shift to the left by the low five bits of an amount, where it is known
 unfoldable pub left_shift_by : ValueView → Option ℕ → Effect
 left_shift_by a None = Fresh full_range
 left_shift_by a (Some n) = product_effect (2 ^ (n % 32)) a
@@ -78,7 +78,7 @@ bit_effect = Fresh (up_to 1)
 abbrev pub unknown_effect : Effect
 unknown_effect = Fresh full_range
 
--- a shift to the right by an amount, of which the low five bits count, where it is known
+-- a shift to the right by the low five bits of an amount, where it is known
 unfoldable pub right_shift_range : Range → Option ℕ → Range
 right_shift_range a None = full_range
 right_shift_range a (Some n) = record { lo = a.lo / 2 ^ (n % 32); hi = a.hi / 2 ^ (n % 32) }

@@ -8,7 +8,7 @@ use Rattle.abs_domain.specs.declared.zones.Zone.{Zone}
 use Rattle.abs_domain.specs.Zones.{zone_of, is_inside}
 
 -- The memory has these zones: whatever a test finds among them it finds among the zones of the
--- memory's areas, of which none passes the last address.
+-- memory's areas. None of these passes the last address.
 pub record HasZones (zones : List Zone) (m : Memory) : Type 0 where
   pub inside : AreInside m.areas
   pub there : (p : Zone → Bool) → list_any p zones ≡ true → list_any p (map zone_of m.areas) ≡ true

@@ -248,7 +248,7 @@ fn bit_effect() -> Effect
     Effect::Fresh { range: up_to(1) }
 }
 
-/// A result of which nothing is known.
+/// A result with nothing known of it.
 fn unknown_effect() -> Effect
     ensures { result ≡ unknown_effect }
 {

@@ -29,7 +29,7 @@ pub enum Effect {
         form: Form<16>,
         interval: Option<Range>,
     },
-    /// A number of which only its range is known.
+    /// A number with only its range known.
     Fresh {
         range: Range,
     },

@@ -248,7 +248,7 @@ module _ (vlenb : ℕ) (s : NumbersView) (v : ℕ → ℕ) (h : Hart) (config : 
           (sym is)
           (strided_lies (bytes_of_width width) m r (width_some width) (omega (arith, is, stride.lies.high, stride.lies.fits)) g)
 
-  -- elements as far away as indices say, of which facts are true
+  -- elements as far away as indices say, where the facts on these are true
   indices_at : (width : Width) (vs2 : ℕ) (ordered masked : Bool) → config.vl ≤ vlmax_of vlenb u
       → AllByRecursion (IsTrueOf vlenb config.vl file) facts → ((k : ℕ) → get_or file k 0 < 256)
       → Lie s vlenb u facts setup (Indexed width vs2 ordered masked) values rs1 (reg_of rs1 h) 0 file

@@ -1,4 +1,4 @@
--- A legal vector instruction whose accesses are permitted leads to a hart and memory of which is true what is known next.
+-- A legal vector instruction whose accesses are permitted leads to a hart and memory that fit what is known next.
 use Rattle.std.proofs.Common.{◌≡◌, ◌<◌, ◌≤◌, ◌+◌, ◌*◌, ◌%◌, ◌^◌, ℕ, Bool, true, false, arith, refl, sym, ap, ◌∙◌, length, List, Option, Some, None}
 use Rattle.std.specs.Prelude.{ℤ, pos, negsuc, get_or, unwrap_or, Ok}
 use Rattle.std.specs.Int.{w8, w16, w32, cast_signed, cast_unsigned}

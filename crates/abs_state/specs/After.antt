@@ -28,7 +28,7 @@ use Rattle.abs_transfer.specs.Facts.{cut_groups, groups_after, known_type}
 abbrev pub next_word : ℕ → ℕ
 next_word pc = (pc + 4) % 2 ^ 32
 
--- a jump to an address, of which bit 0 is cleared, if it is known
+-- a jump to an address, if it is known, with its bit 0 cleared
 unfoldable pub jump_way : Option ℕ → Way
 jump_way None = Unknown
 jump_way (Some address) = To (without_bit_0 address)

@@ -80,7 +80,7 @@ pub record EdgeView : Type 0 where
   pub target : Option ℕ
   pub said : Option Said
 
--- an edge of which the state says all
+-- an edge that the state says all of
 abbrev pub plain_edge : AbstractView → Option ℕ → EdgeView
 plain_edge a target = record {
   state = a;

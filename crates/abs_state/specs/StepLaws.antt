@@ -27,7 +27,7 @@ use Rattle.abs_state.specs.Held.{Setting, Held, IsAt, vlenb_in}
 abbrev pub or_misaligned : Hart → Memory → Result (Hart × Memory) Fault
 or_misaligned h m = if h.pc % 4 == 0 then Ok (h, m) else Err (JumpMisaligned h.pc)
 
--- A step leads to a hart of which is true what is known next, and a memory. A jump to an address
+-- A step leads to a hart that fits what is known next, and a memory. A jump to an address
 -- that is no multiple of 4 counts as one there, though it faults.
 pub record StepIsHeld (s new : NumbersView) (v : ℕ → ℕ) (config : Vconfig) (way : Way) (m : Memory)
     (result : Result (Hart × Memory) Fault) : Type 0 where
@@ -58,7 +58,7 @@ CsrStepsHold =
 
 -- ---- machines
 
--- A step leads to a machine of which is true what is known next, or to the fault of a
+-- A step leads to a machine that fits what is known next, or to the fault of a
 -- misaligned jump there.
 pub record MachineIsHeld (e : Setting) (n : ℕ) (b : AbstractView) (result : Result Machine Fault)
     : Type 0 where

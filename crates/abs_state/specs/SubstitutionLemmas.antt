@@ -1,4 +1,4 @@
--- Sums of which each atom is replaced by the form in its place, and forms that are equal.
+-- Sums with each atom replaced by the form in its place, and forms that are equal.
 use Rattle.std.proofs.Common.{◌≡◌, ◌<◌, ◌≤◌, ◌+◌, ◌↔◌, ℕ, Bool, true, false, arith, refl, sym, ap, ◌∙◌, IsTrue, List, [], ◌∷◌, length, map, drop, get_or}
 use Rattle.std.specs.Prelude.{◌==◌, ◌&&◌}
 use Rattle.std.proofs.lemmas.Bool.{and_parts, eqb-true}

@@ -18,7 +18,7 @@ fn to(target: u32) -> Way
     Way::To { target }
 }
 
-/// A jump to an address, of which bit 0 is cleared, if it is known.
+/// A jump to an address, if it is known, with its bit 0 cleared.
 #[tactic(auto, unfolding(crate::specs::After::jump_way))]
 fn jump_way(address: Option<u32>) -> Way
     ensures { result ≡ jump_way_of address }

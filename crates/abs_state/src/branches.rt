@@ -111,7 +111,7 @@ fn apart_from(b: Range, a: Range) -> Option<Range>
     }
 }
 
-/// The ranges of two numbers of which the first is below the second.
+/// The ranges of two numbers, the first of them below the second.
 #[tactic(auto, unfolding(crate::specs::Branches::related_ranges))]
 fn below(a: Range, b: Range) -> Option<(Range, Range)>
     ensures { result ≡ related_ranges_of Below a b }
@@ -301,7 +301,7 @@ impl<A: Allocator> Edge<'_, A> {
 }
 
 impl<A: Allocator> Abstract<A> {
-    /// An edge of which the state says all.
+    /// An edge that the state says all of.
     fn plain_edge(&self, target: Option<u32>) -> Edge<'_, A>
         ensures { result ≡ plain_edge_of self.now target }
     {

@@ -1,4 +1,4 @@
--- Lists of which an item changes in place.
+-- Lists with an item that changes in place.
 use Rattle.std.proofs.Common.{arith, sym, ap, ◌∙◌, ◌≡◌, ◌+◌, ◌<◌, ℕ, List, map, length, take, drop, get_or}
 use Rattle.std.specs.Prelude.{slice_set}
 use Rattle.std.proofs.lemmas.Grind.{drop_more_same}

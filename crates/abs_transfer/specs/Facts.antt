@@ -61,7 +61,7 @@ second_range t s facts (Immediate imm) = just (unsigned imm % 2 ^ bits_of_width 
 
 -- ---- what an operation makes of elements, where that is known
 
--- a shift to the left by an amount, of which the low bits count, where it is known
+-- a shift to the left by the low bits of an amount, where it is known
 unfoldable pub left_elements : ℕ → Range → Option ℕ → Option Range
 left_elements bits a None = None
 left_elements bits a (Some n) = multiple_range bits (2 ^ (n % bits)) a

@@ -140,7 +140,7 @@ no_atom : {P : Type 0} (t : Bool) (a : ℕ) → (if t then None else None) ≡ S
 no_atom true a e = cc
 no_atom false a e = cc
 
--- the atom that a form is is one of those of which it speaks
+-- the atom that a form is, is one of those that it speaks of
 whole_below : (n c : ℕ) (ts : List Term) (a : ℕ) → (if c == 0 then atom_of_terms ts else None) ≡ Some a → AreBelow n ts → a < n
 whole_below n c [] a e below = no_atom (c == 0) a e
 whole_below n c (t ∷ []) a e below = by_test (c == 0) (t.coefficient == 1) e

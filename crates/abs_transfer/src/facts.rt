@@ -146,7 +146,7 @@ fn second_range<A: Allocator>(
     }
 }
 
-/// A shift to the left by an amount, of which the low bits count, where it is known.
+/// A shift to the left by the low bits of an amount, where it is known.
 #[tactic(auto, unfolding(crate::specs::Facts::left_elements))]
 fn left_elements(bits: u32, a: Range, amount: Option<u32>) -> Option<Range>
     requires least { 0 < bits }

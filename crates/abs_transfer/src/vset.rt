@@ -195,7 +195,7 @@ fn limit_to_number<A: Allocator>(numbers: &mut Numbers<A>, vlmax: u32, number: u
     limit(numbers, whole, lesser(vlmax, range), excess(vlmax, range));
 }
 
-/// A supported type of these bits, of which this is VLMAX.
+/// A supported type with these bits and this VLMAX.
 #[tactic(auto, unfolding(crate::specs::Vset::supported_request))]
 fn set_supported<A: Allocator>(
     numbers: &mut Numbers<A>,

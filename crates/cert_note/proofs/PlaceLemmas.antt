@@ -34,7 +34,7 @@ pair = record { rest = λ x. x.1; extend = λ more x. (x.0, x.1 ++ more) }
 abbrev list : Shape (List ℕ)
 list = record { rest = λ x. x; extend = λ more x. x ++ more }
 
--- A fault lies in so many bytes, and what is cut off is read to the end.
+-- A fault lies in n bytes, and what is cut off is read to the end.
 record IsIn (n : ℕ) (f : Fault) : Type 0 where
   inside : f.left ≤ n
   whole : is_short f.error ≡ true → f.left ≡ 0
@@ -43,7 +43,7 @@ abbrev IsWithin : {X : Type 0} → Shape X → ℕ → Result X Fault → Type 0
 IsWithin shape n (Ok x) = length (shape.rest x) ≤ n
 IsWithin shape n (Err f) = IsIn n f
 
--- With so many bytes left out behind, the same is read, or the bytes are cut off within what was read.
+-- With some bytes left out behind, the same is read, or the bytes are cut off within what was read.
 abbrev AreAlike : {X : Type 0} → Shape X → List ℕ → Result X Fault → Result X Fault → Type 0
 AreAlike shape out (Ok x) (Ok y) = x ≡ shape.extend out y
 AreAlike shape out (Ok x) (Err g) = (g ≡ cut_off) × (length (shape.rest x) < length out)

@@ -367,7 +367,7 @@ front_at bytes = do
     count.1,
   )
 
--- so many blocks behind a front
+-- a number of blocks behind a front
 abbrev pub blocks_behind : Front → ℕ → List ℕ → Result (List Block × List ℕ) Fault
 blocks_behind front count = blocks_at front.version front.vlen front.parameters count 0
 
@@ -395,7 +395,7 @@ certificate_of bytes = result_map_both (λ c. c) (λ fault. fault.error) (readin
 
 -- ---- where the first fault is
 
--- the front and at most so many of the blocks
+-- the front and at most a number of the blocks
 unfoldable pub first_blocks : ℕ → List ℕ → Result (List Block × List ℕ) Fault
 first_blocks most bytes = do
   front ← front_at bytes
@@ -423,7 +423,7 @@ AreRead front bytes kept rest =
     (blocks : List Block) × (blocks_behind front front.count bytes ≡ Ok (blocks, rest))
     × IfSome kept (λ items. items ≡ blocks)
 
--- what is told of bytes by a fault and its block
+-- what a fault and its block say of bytes
 abbrev pub refusal_of : List ℕ → Fault → Option ℕ → CertRefusal
 refusal_of bytes fault block = record {
   error = fault.error;
@@ -431,12 +431,12 @@ refusal_of bytes fault block = record {
   place = Some (length bytes - fault.left);
 }
 
--- what is told where memory ran out
+-- the refusal where memory ran out
 abbrev pub out_of_memory : CertRefusal
 out_of_memory = record { error = error.NoMemory; block = None; place = None }
 
--- So many bytes are read when the error is told: they tell it, and with one less it is not told.
--- Bytes that end too early are read to their end.
+-- The error is known when `place` bytes are read: from these it follows, and from one less it does
+-- not. Bytes that end too early are read to their end.
 pub record IsFaultPlace (bytes : List ℕ) (e : CertError) (place : ℕ) : Type 0 where
   pub inside : place ≤ length bytes
   pub told : certificate_of (take place bytes) ≡ Err e
@@ -449,7 +449,7 @@ pub record IsEvidence (bytes : List ℕ) (e : CertError) (refusal : CertRefusal)
   pub block : IsFaultBlock bytes refusal.block
   pub place : IsSomeAnd refusal.place (IsFaultPlace bytes e)
 
--- The first fault is told with its evidence, and want of memory only where there is none.
+-- The first fault is the answer, with its evidence, and want of memory only where there is none.
 abbrev pub IsRefusal : List ℕ → CertRefusal → Type 0
 IsRefusal bytes refusal = MatchResult (certificate_of bytes) (λ c. refusal ≡ out_of_memory)
     (λ e. IsEvidence bytes e refusal)

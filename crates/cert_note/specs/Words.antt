@@ -1,4 +1,4 @@
--- The types of which a certificate is made, under one name.
+-- The types that a certificate is made of, under one name.
 pub use Rattle.region_mem.specs.declared.parameter.Mode.{Mode}
 pub use Rattle.region_mem.specs.declared.parameter.Param.{Param}
 pub use Rattle.vreg_groups.specs.declared.vector_length.Vlen.{Vlen}

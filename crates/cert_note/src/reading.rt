@@ -119,7 +119,7 @@ impl Item<ArrayVec<RegisterFact, 32>> for OrderFact {
     }
 }
 
-/// Reads so many items from a number on into `items`, in place of what stood there.
+/// Reads a number of items from a place on into `items`, in place of what stood there.
 fn many_at<'a, C, T: Item<C>, const MOST: usize>(
     context: &C,
     count: u8,
@@ -158,7 +158,7 @@ fn none_at<'a>(
     Ok(bytes)
 }
 
-/// Reads an equality of so many terms.
+/// Reads an equality, whose count of terms is known.
 #[tactic(auto, unfolding(crate::specs::Reading::some_at, crate::specs::Reading::sum_at))]
 fn some_at<'a>(
     parameters: &Parameters,
@@ -432,8 +432,8 @@ pub fn read_kept<A: Allocator>(alloc: A, bytes: &[u8]) -> Result<Certificate<A>,
 /// layout of the bytes stands in docs/CERTIFICATES.md; numbers are little-endian.
 ///
 /// # Errors
-/// The fields are read in the order of the bytes, and the first one that is missing or wrong is told: `Short` where the
-/// bytes end before or within it, and else the error that is listed here beside it.
+/// The fields are read in the order of the bytes. The first one that is missing or wrong is the answer: `Short` where
+/// the bytes end before or within it, and else the error that is listed here beside it.
 ///
 /// 1. The version, the vector length and a byte of zero: `Version`.
 /// 2. Eight parameters: `Parameter`; a buffer's size at the parameter's first number, a scalar's interval at the
@@ -444,8 +444,8 @@ pub fn read_kept<A: Allocator>(alloc: A, bytes: &[u8]) -> Result<Certificate<A>,
 ///    - the budget: `Budget`, at its register; in version 2 also at its second factor, which stands before the registers,
 ///      and at its second register;
 ///    - whether the vector type is known, and the vector type: `Fact`;
-///    - the counts of facts on registers and on vector registers, and three bytes of zero, of which the first two are one
-///      count of orders in version 2: `TooMany`;
+///    - the counts of facts on registers and on vector registers, and three bytes of zero: `TooMany`. In version 2 the
+///      first two of these are one count of orders;
 ///    - each fact on a register: `Fact` at its number, at its high, or at the 255 that stands for no equality;
 ///      `Equality` at the count of its equality's terms, and at each atom and each coefficient;
 ///    - each fact on vector registers: `Fact`, its interval at its high;
@@ -461,7 +461,7 @@ pub fn read<A: Allocator>(alloc: A, bytes: &[u8]) -> Result<Certificate<A>, Cert
     // What is spelled so is read, unless memory runs out.
     ensures only { (c : CertificateView) → IsCertificate c → bytes.now ≡ spelling c →
         MatchResult result (λ r. r ≡ c) (λ e. e ≡ CertError.NoMemory) }
-    // The first fault of the bytes is told, whatever the memory.
+    // The first fault of the bytes is the answer, whatever the memory.
     ensures refused { IfErr (certificate_of bytes.now) (λ e. result ≡ Err e) }
     // Bytes without fault are read as what they spell, unless memory runs out.
     ensures read { IfOk (certificate_of bytes.now) (λ c.

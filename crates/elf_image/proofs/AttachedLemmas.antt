@@ -18,7 +18,7 @@ use Rattle.elf_image.proofs.PatchedLemmas.{kept, phoff_is, phnum_is}
 unfoldable pub note_header_of : ℕ → ℕ → ProgramHeader
 note_header_of offset size = record { p_type = 4; p_offset = offset; p_vaddr = 0; p_filesz = size; p_memsz = size; p_flags = 4 }
 
--- one of the numbers of which so many bytes are made
+-- one of the numbers that a number of bytes are made of
 number_there : (o k v : ℕ) (xs bytes : List ℕ) → v < 4294967296 → drop o xs ≡ bytes → drop k bytes ≡ word v ++ drop (k + 4) bytes → word_at (o + k) xs ≡ v
 number_there o k v xs bytes l e f = word_there (o + k) v xs (drop (k + 4) bytes) l (sym (drop-drop k o xs) ∙ ap (drop k) e ∙ f)
 

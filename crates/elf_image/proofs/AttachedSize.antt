@@ -52,7 +52,7 @@ patched_long offset count file l =
 pub headers_long : (file : List ℕ) → HasTable file → length (headers_of file) ≡ 32 * e_phnum file
 headers_long file t = omega (arith, length-take (32 * e_phnum file) (drop (e_phoff file) file), length-drop (e_phoff file) file)
 
--- the size is the one that is told
+-- the size is the one in the answer
 pub attached_long : (file cert : List ℕ) → HasTable file → length (attached_of file cert) ≡ attached_size (length file) (e_phnum file) (length cert)
 unfolding attached_of
 attached_long file cert t =

@@ -163,11 +163,11 @@ is_refused faults others file r e =
     let told = told_first file r (first_of faults file) e in
     (found_before faults others file r.error told.0, told.1)
 
--- where none of these faults is told, none of them is there
+-- where none of these faults is the answer, none of them is there
 pub none_told : (faults : List ElfError) (file : List ℕ) → None ≡ first_refusal faults file → None ≡ first_of faults file
 none_told faults file e = none_first file (first_of faults file) e
 
--- and the error that is told is the first of them
+-- and the error in the answer is the first of them
 pub error_told : (faults : List ElfError) (file : List ℕ) (r : ElfRefusal) → Some r ≡ first_refusal faults file → Some r.error ≡ first_of faults file
 error_told faults file r e = sym (told_first file r (first_of faults file) e).0
 

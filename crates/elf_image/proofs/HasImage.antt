@@ -1,4 +1,4 @@
--- A file of which no fault of the segments holds has an image.
+-- A file with no fault of the segments has an image.
 use Rattle.std.proofs.Common.{◌≡◌, ℕ, ◌+◌, ◌%◌, ◌<◌, ◌≤◌, inl, inr, Bool, true, false, cond, not, ◌&&◌, ◌||◌, ltb, leb, eqb, List, [], ◌∷◌, length, drop, map, filter, None, refl, sym, ap, ◌∙◌, arith}
 use Rattle.std.specs.List.{All, AllByRecursion, list_any, sum_by}
 use Rattle.std.proofs.lemmas.Bool.{and_parts, and_from, and_cases, or_cases, ltb-true, ltb-false, leb-true, eqb-true, lt-ltb, not-false}
@@ -45,7 +45,7 @@ is_in_place h e =
       | inr t ↦ let p = and_parts (leb HIGH_SEGMENTS h.p_vaddr) (leb (h.p_vaddr + h.p_memsz) HIGH_SEGMENTS_END) t in inr (leb-true _ _ p.0, leb-true _ _ p.1)
     ]
 
--- a header of which no fault holds can be loaded
+-- a header with no fault can be loaded
 loadable : (file : List ℕ) (h : ProgramHeader) → All (λ byte. byte < 256) file → is_segment h ≡ true → is_out_of_file (length file) h ≡ false → is_out_of_place h ≡ false → is_write_and_execute h ≡ false → IsLoadable file h
 unfolding segment_of
 loadable file h bytes is_seg in_file in_place exclusive =
@@ -64,7 +64,7 @@ loadable file h bytes is_seg in_file in_place exclusive =
       inside = inside_file file h in_file (either_left (is_load h) (is_note h) kind.0);
     }
 
--- so can each header of which no fault holds
+-- so can each header with no fault
 each_loadable : (file : List ℕ) (hs : List ProgramHeader) → All (λ byte. byte < 256) file
     → list_any (is_out_of_file (length file)) hs ≡ false → list_any is_out_of_place (filter is_segment hs) ≡ false → list_any is_write_and_execute (filter is_segment hs) ≡ false
     → AllByRecursion (IsLoadable file) (filter is_segment hs)
@@ -142,14 +142,14 @@ is_image file each apart large code =
       entry_is_code = same_code file (e_entry file) hs ∙ not-false _ c.1;
     }
 
--- the bytes of each note segment of a file of which no fault of the headers by themselves holds lie in it
+-- the bytes of each note segment of a file lie in it, where no fault of the headers by themselves holds
 pub notes_in_place : (file : List ℕ) → None ≡ first_of place_faults file → All (λ h. is_note h ≡ true → IsInside file h) (program_headers file)
 unfolding has_out_of_file
 notes_in_place file e =
     let places = (has_places file [] e).0 in
     All-from_recursion _ _ (notes_inside file (program_headers file) places.inside)
 
--- A file of which no fault of the segments holds has an image.
+-- A file with no fault of the segments has an image.
 pub has_image : (file : List ℕ) → AreBytes file → None ≡ first_of segment_faults file → HasImage file
 unfolding has_out_of_file has_out_of_place has_write_and_execute
 has_image file bytes e =

@@ -18,7 +18,7 @@ first_piece o (suc n) xs ys l =
 pub behind_piece : (o k : ℕ) (xs ys : List ℕ) → o ≡ length xs + k → drop o (xs ++ ys) ≡ drop k ys
 behind_piece o k xs ys e = ap (λ (o : ℕ). drop o (xs ++ ys)) e ∙ drop-append-add xs ys k
 
--- a part that has no bytes, or none among so many from an offset on
+-- a part that has no bytes, or none among a number of them from an offset on
 abbrev pub IsBeside : ℕ → ℕ → ℕ → ℕ → Type 0
 IsBeside from size o n = (n ≡ 0) ⊎ ((o + n ≤ from) ⊎ (from + size ≤ o))
 

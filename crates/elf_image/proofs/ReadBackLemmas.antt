@@ -47,7 +47,7 @@ all_in_larger n m (h ∷ hs) l e =
     let both = neither (is_out_of_file n h) (list_any (is_out_of_file n) hs) e in
     rw (in_larger n m h l both.0, all_in_larger n m hs l both.1) refl
 
--- segments of which each is the same in two files
+-- segments, each the same in two files
 segments_same : (f g : ProgramHeader → SegmentView) (size : ℕ) (hs : List ProgramHeader) → ((h : ProgramHeader) → is_segment h ≡ true → is_out_of_file size h ≡ false → f h ≡ g h)
     → list_any (is_out_of_file size) hs ≡ false → map f (filter is_segment hs) ≡ map g (filter is_segment hs)
 segments_same f g size [] same e = refl

@@ -31,7 +31,7 @@ unfoldable pub note_header : ℕ → ℕ → List ℕ
 note_header offset size =
     word PT_NOTE ++ word offset ++ word 0 ++ word 0 ++ word size ++ word size ++ word PF_R ++ word 4
 
--- so many bytes of a file from an offset on, and all of them
+-- a number of bytes of a file from an offset on, and all of them
 unfoldable pub part : ℕ → ℕ → List ℕ → List ℕ
 part offset size file = take size (drop offset file)
 

@@ -118,7 +118,7 @@ abbrev pub are_overlapping : ProgramHeader → ProgramHeader → Bool
 are_overlapping g h = is_segment g && is_segment h && overlap g h
 
 -- the two with the least numbers that do, of headers that are numbered from n on: the second
--- stands so many places behind the first
+-- stands a number of places behind the first
 abbrev pub pair_or : ℕ → Option (ℕ × ℕ) → Option ℕ → Option (ℕ × ℕ)
 pair_or n rest None = rest
 pair_or n rest (Some behind) = Some (n, n + 1 + behind)
@@ -171,7 +171,7 @@ evidence_of file error.NoMemory = evidence.Nothing
 abbrev pub refusal_of : List ℕ → ElfError → ElfRefusal
 refusal_of file e = record { error = e; evidence = evidence_of file e }
 
--- what is told of a file that has this fault, or has not
+-- the refusal of a file that has this fault, or has not
 abbrev pub refusal_if : List ℕ → ElfError → Option ElfRefusal
 refusal_if file e = if holds e file then Some (refusal_of file e) else None
 

@@ -1,4 +1,4 @@
--- What may be wrong with a file, and which of it is told.
+-- What may be wrong with a file, and which of it is the answer.
 use Rattle.std.specs.Prelude.{ℕ, ◌+◌, ◌%◌, ◌==◌, ◌&&◌, ◌||◌, not, nat_lt, nat_le, nat_eq, Bool, false, List, [], ◌∷◌, ◌++◌, length, bit_and, Option, Some, None, find, if◌then◌else◌}
 use Rattle.std.specs.List.{list_any, sum_by, starts_with, slice_index}
 use Rattle.elf_image.specs.declared.error.ElfError.{ElfError}
@@ -153,7 +153,7 @@ segment_faults = place_faults ++ TooLarge ∷ EntryNotCode ∷ []
 abbrev pub note_faults : List ElfError
 note_faults = TwoCertificates ∷ []
 
--- what is told of a file that has this fault, or has not
+-- the error of a file that has this fault, or has not
 abbrev pub told_if : ElfError → Bool → Option ElfError
 told_if fault wrong = if wrong then Some fault else None
 

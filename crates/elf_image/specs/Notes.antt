@@ -51,8 +51,8 @@ unfoldable pub after_note : List ℕ → List ℕ
 after_note bytes =
     drop (NOTE_HEADER_SIZE + padded (n_namesz bytes) + padded (n_descsz bytes)) bytes
 
--- the notes at the front, one after the other, but at most so many; nothing that follows bytes that
--- are no whole note is one
+-- the notes at the front, one after the other, but at most a number of them. Nothing that follows
+-- bytes that are no whole note is one
 unfoldable pub notes_within : ℕ → List ℕ → List NoteView
 notes_within zero bytes = []
 notes_within (suc most) bytes =

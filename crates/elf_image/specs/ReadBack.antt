@@ -8,7 +8,7 @@ use Rattle.elf_image.specs.File.{e_entry, program_headers, segment_headers, is_n
 use Rattle.elf_image.specs.Faults.{fault_of}
 use Rattle.elf_image.specs.Attached.{attach_fault, attached_of, patched_of}
 
--- some of so many bytes of the file from an offset on are the segment's
+-- some of a number of bytes of the file, from an offset on, are the segment's
 abbrev pub covers : ℕ → ℕ → ProgramHeader → Bool
 covers offset size h =
     nat_lt 0 h.p_filesz && nat_lt h.p_offset (offset + size)

@@ -1,4 +1,4 @@
--- The little-endian numbers of which a file of the ELF standard is made.
+-- The little-endian numbers that make up a file of the ELF standard.
 use Rattle.std.specs.Prelude.{ℕ, ◌<◌, List, drop, get_or}
 use Rattle.std.specs.Int.{w16, w32, to_le_bytes}
 use Rattle.byteorder.specs.Endian.{little_number}

@@ -43,7 +43,7 @@ pub fn put_word<A: Allocator>(out: &mut Vec<u8, A>, number: u32) -> Result<(), A
     Ok(())
 }
 
-/// The zeros that bring so many bytes to a multiple of 4.
+/// The zeros that bring a number of bytes to a multiple of 4.
 #[tactic(auto, unfolding(crate::specs::Attached::padding))]
 fn put_padding<A: Allocator>(out: &mut Vec<u8, A>, size: usize) -> Result<(), AllocError>
     requires { size < 2 ^ 32 }
@@ -79,7 +79,7 @@ fn put_rest<A: Allocator>(
     out.extend_from_slice(&file[offset..])
 }
 
-/// The file with a table of so many program headers at an offset.
+/// The file with a table of program headers at an offset.
 #[tactic(auto, unfolding(crate::specs::Attached::patched))]
 fn put_patched<A: Allocator>(
     out: &mut Vec<u8, A>,
@@ -97,7 +97,7 @@ fn put_patched<A: Allocator>(
     put_rest(out, file, E_PHNUM + 2)
 }
 
-/// The program header of a note segment of so many bytes at an offset.
+/// The program header of a note segment, by its offset and size in bytes.
 #[tactic(auto, unfolding(crate::specs::Attached::note_header))]
 fn put_note_header<A: Allocator>(
     out: &mut Vec<u8, A>,
@@ -141,7 +141,7 @@ fn headers_of(file: &[u8]) -> &[u8]
     part_of(file, first, PROGRAM_HEADER_SIZE as usize * count)
 }
 
-/// How many bytes the note of a certificate of so many bytes has.
+/// How many bytes the note of a certificate has.
 #[tactic(auto, using(crate::proofs::AttachedSize::note_long))]
 fn note_size(certificate: &[u8]) -> usize
     requires { length certificate.now < 2 ^ 32 }
@@ -178,7 +178,7 @@ fn outgrows(file: &[u8], certificate: &[u8]) -> bool
     attached_size(file.len(), count, certificate.len()) > MAX_FILE_SIZE
 }
 
-/// Whether the file has a certificate, of which the first was found, if there is one.
+/// Whether the file has a certificate, by the first that was found, if there is one.
 fn has_certificate(file: &[u8], found: Option<&[u8]>) -> bool
     requires { option_copied found ≡ slice_get (certificates_of file.now) 0 }
     ensures { result ≡ has_certificate file.now }
@@ -232,7 +232,7 @@ fn write_attached<A: Allocator>(
 ///
 /// Nothing is attached for the first reason, in the order of `ElfError`, that holds; there each variant says when. The file is
 /// `TooLarge` too where it has 64 program headers already, or would have more than 4 MiB with the certificate, and
-/// `CertificateThere` is told where it has a certificate. Every reason but `NoMemory` is looked for before any memory is
+/// `CertificateThere` where it has a certificate. Every reason but `NoMemory` is looked for before any memory is
 /// asked for.
 ///
 /// `alloc` gives the memory for the bytes of the result.
@@ -241,7 +241,7 @@ pub fn attach<A: Allocator>(
     file: &[u8],
     certificate: &[u8],
 ) -> Result<Vec<u8, A>, ElfError>
-    // The first reason against it is told.
+    // The first reason against it is the answer.
     ensures refused { IfSome (attach_fault file.now certificate.now) (λ e. result ≡ Err e) }
     // Where there is none, the result is the file with the certificate, unless memory runs out.
     ensures bytes { IfNone (attach_fault file.now certificate.now)

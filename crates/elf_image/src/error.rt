@@ -8,8 +8,8 @@ use std::alloc::{AllocError, AllocFailed};
 use std::error::Error;
 use std::fmt;
 
-/// Why a file is refused. Of several reasons the first of this list is told; `NoMemory` only where no
-/// other holds.
+/// Why a file is refused. Of several reasons the first of this list is the answer. `NoMemory` is it only where
+/// no other holds.
 #[derive(Clone, Copy, Debug, PartialEq, Eq)]
 pub enum ElfError {
     /// The file has fewer than the 52 bytes of an ELF header.

@@ -83,7 +83,7 @@ pub enum Excess {
 pub enum ElfEvidence {
     /// Nothing: memory ran out.
     Nothing,
-    /// The file has too few bytes: so many.
+    /// The file has too few bytes, and this number of them.
     Short(usize),
     /// A field of the ELF header, the offset of its first byte in the file, and the number that stands there.
     Field {
@@ -91,7 +91,7 @@ pub enum ElfEvidence {
         offset: usize,
         value: u32,
     },
-    /// The first program header that breaks a rule, in a file of so many bytes.
+    /// The first program header that breaks a rule, and the file's size in bytes.
     Segment {
         rule: SegmentRule,
         size: usize,
@@ -165,7 +165,7 @@ impl ElfField {
         }
     }
 
-    /// What is known of a file of which the field is wrong.
+    /// What is known of a file with this field wrong.
     pub(crate) fn evidence(self, file: &[u8]) -> ElfEvidence
         requires { ELF_HEADER_SIZE ≤ length file.now }
         ensures { result ≡ field_evidence file.now self }
@@ -179,7 +179,7 @@ impl ElfField {
 }
 
 impl SegmentRule {
-    /// Why a file is refused of which a program header breaks the rule.
+    /// Why a file is refused where a program header breaks the rule.
     pub(crate) fn error(self) -> ElfError
         ensures { result ≡ error_of self }
     {

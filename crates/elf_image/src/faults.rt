@@ -59,7 +59,7 @@ pub fn is_too_short(file: &[u8]) -> bool
     file.len() < ELF_HEADER_SIZE
 }
 
-/// Refuses a file of which a field is wrong.
+/// Refuses a file where a field is wrong.
 fn refuse_field(
     file: &[u8],
     wrong: bool,
@@ -371,7 +371,7 @@ fn check_large(file: &[u8], segments: &HeaderTable) -> Result<(), ElfRefusal>
     }
 }
 
-/// Refuses a file of which the entry is not in code, with the segments where it is not.
+/// Refuses a file whose entry is not in code, with the segments where it is not.
 fn check_entry(file: &[u8], headers: &HeaderTable, segments: &HeaderTable) -> Result<(), ElfRefusal>
     requires header { HasTable file.now }
     requires headers { headers.now ≡ program_headers file.now }

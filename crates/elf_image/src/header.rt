@@ -14,7 +14,7 @@ use arrayvec::ArrayVec;
 use byteorder::{ByteOrder, LittleEndian};
 use std::marker::Model;
 
-/// Where the kind of file lies, of which this crate reads executables ("ELF Header", `Elf32_Ehdr`).
+/// Where the kind of file lies. This crate reads executables ("ELF Header", `Elf32_Ehdr`).
 pub const E_TYPE: usize = 16;
 
 /// Where the architecture lies.

@@ -67,7 +67,7 @@ fn copy_certificate<A: Allocator>(
 }
 
 impl<A: Allocator + Copy> Image<A> {
-    /// The image of a file of which these are the headers of the segments and the certificate.
+    /// The image of a file with these headers of segments and this certificate.
     #[tactic(auto, unfolding(crate::specs::File::image_of))]
     pub(crate) fn load(
         alloc: A,

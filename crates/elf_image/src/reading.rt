@@ -19,7 +19,7 @@ use std::alloc::Allocator;
 /// `alloc` gives the memory for the list of segments, the bytes of each, and those of the certificate.
 #[tactic(auto, unfolding(crate::specs::Faults::fault_of))]
 pub fn read_kept<A: Allocator + Copy>(alloc: A, file: &[u8]) -> Result<Image<A>, ElfRefusal>
-    // The first fault of the file is told, with what is known of it.
+    // The first fault of the file is the answer, with what is known of it.
     ensures refused { IfSome (fault_of file.now)
         (λ e. result ≡ Err (refusal_of file.now e)) }
     // A file without fault is read as the image that it has, unless memory runs out.
@@ -50,7 +50,7 @@ pub fn read_kept<A: Allocator + Copy>(alloc: A, file: &[u8]) -> Result<Image<A>,
 ///
 /// `alloc` gives the memory for the list of segments, the bytes of each, and those of the certificate.
 pub fn read<A: Allocator + Copy>(alloc: A, file: &[u8]) -> Result<Image<A>, ElfError>
-    // The first fault of the file is told.
+    // The first fault of the file is the answer.
     ensures refused { IfSome (fault_of file.now) (λ e. result ≡ Err e) }
     // A file without fault is read as the image that it has, unless memory runs out.
     ensures image { IfNone (fault_of file.now)

@@ -105,7 +105,7 @@ is_unset {m} x e none = elim (eqb_tells m 0) [
   | inr other ↦ absurd (other.1 (e ∙ none))
 ]
 
--- lanes of which no bit of the mask is set
+-- lanes with no bit of the mask set
 pub no_bit : (fs : List ℕ) (k : ℕ) → mask_l (map (λ f. not (f == 0)) fs) ≡ 0 → get_or fs k 0 ≡ 0
 no_bit [] k e = refl
 no_bit (f ∷ fs) zero e = elim (eqb_tells f 0) [
@@ -125,7 +125,7 @@ all_clear (suc n) (f ∷ fs) long h =
 
 -- ---- one chunk
 
--- the bytes of elements of which some saturate, and no others, are not 0
+-- the bytes of elements are not 0 where some of them saturate, and nowhere else
 pub any_told : (s k n : ℕ) (t : ℕ → Bool) (lanes : List ℕ) (result : Bool) → 1 ≤ s → s * k ≡ n → n ≤ 16
     → ((p : ℕ) → p < 16 → n ≤ p → get_or lanes p 0 ≡ 0)
     → ((j : ℕ) → j < k → ((q : ℕ) → q < s → get_or lanes (s * j + q) 0 ≡ 0) → t j ≡ false)

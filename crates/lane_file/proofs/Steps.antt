@@ -78,7 +78,7 @@ pub none_done : (s c d n : ℕ) (z : ℕ → ℕ) (file : List ℕ) → s * c �
 none_done zero c d n z file sizes e i le = absurd (omega (arith, sizes))
 none_done (suc s) c d n z file sizes e i le = absurd (omega (arith, e, le))
 
--- one more chunk, of which the first bytes are of the body
+-- one more chunk, its first bytes of the body
 pub more_done : (s c d m n : ℕ) (z : ℕ → ℕ) (now new : List ℕ) → s * c ≡ 16 → 16 * m ≤ n → n ≤ 16 * m + 16 → IsDone s d z (16 * m) now
     → ((j : ℕ) → j < c → s * j + s ≤ n - 16 * m → little_from (d + 16 * m + s * j) s new ≡ z (c * m + j))
     → ((k : ℕ) → k < d + 16 * m → get_or new k 0 ≡ get_or now k 0) → IsDone s d z n new
@@ -165,7 +165,7 @@ target_still vlenb s c d a m n j number f b masked inactive old now sizes lt roo
 pub kept_is : (d n : ℕ) (old mid new : List ℕ) → new ≡ mid → IsKept d n old mid → IsKept d n old new
 kept_is d n old mid new is kept = (ap length is ∙ kept.0, λ k outside. ap (λ l. get_or l k 0) is ∙ kept.1 k outside)
 
--- the place up to which an operation is done, after one more chunk of which r bytes are of the body
+-- the place up to which an operation is done, after one more chunk with r bytes of the body
 pub more_chunk : {A : Type 0} (vlenb s c d a m n r room : ℕ) (number : A → ℕ) (f : ℕ → ℕ → ℕ → ℕ) (b : Second A) (masked : Bool) (inactive : Agnostic) (old now new : List ℕ) → s * c ≡ 16 → n ≡ 16 * m + r → r ≤ 16 → 16 * m + 16 ≤ room → room ≤ 8 * vlenb
     → Apart d a room → IsSecondApart vlenb d b room → (masked ≡ true → vlenb ≤ d)
     → IsDone s d (target vlenb s number f d a b masked inactive old) (16 * m) now → IsKept d (16 * m) old now

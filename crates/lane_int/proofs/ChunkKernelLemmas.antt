@@ -121,7 +121,7 @@ chunk_written f i n m xs ys now new e is le same written =
     written ∙ ap (λ zs. put_chunk i now (zip2 f zs (chunk i n ys))) still ∙ ap (put_chunk i now) (sym (chunk_zip2 f i n xs ys)) ∙ ap (λ zs. put_chunk i zs (chunk i n (zip2 f xs ys))) e
     ∙ over_more i n m (zip2 f xs ys) xs is le (length-zip2 f xs ys (sym same))
 
--- the same of three lists, of which the third is written
+-- the same of three lists, the third of them written
 zip3_none : {A B C D : Type 0} (f : A → B → C → D) (xs : List A) (zs : List C) → zip3 f xs [] zs ≡ []
 zip3_none f [] zs = refl
 zip3_none f (x ∷ xs) zs = refl

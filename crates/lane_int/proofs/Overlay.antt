@@ -14,7 +14,7 @@ zip2_more_into f xs ys old now i x y z e lt same_x same_y is_x is_y is_z =
     let at : get_or (zip2 f xs ys) i z ≡ f (get_or xs i x) (get_or ys i y) = get_or-zip2 f xs ys i x y z (omega arith) (omega arith) in
     overlaid_more i (zip2 f xs ys) old now z e lt (long ∙ same_x) cc
 
--- the same, k places after i, from what is told of the elements there
+-- the same, k places after i, from what is known of the elements there
 pub zip2_after_into : {A B C : Type 0} (f : A → B → C) (xs : List A) (ys : List B) (old now : List C) (i k : ℕ) (z : C) → now ≡ overlaid (i + k) (zip2 f xs ys) old → length now ≡ length old → i + k < length old → length xs ≡ length old → length ys ≡ length old → ((d : A) (e : B) → z ≡ f (get_or xs (i + k) d) (get_or ys (i + k) e))
     → (length (set now (i + k) z) ≡ length old) × (set now (i + k) z ≡ overlaid (i + (k + 1)) (zip2 f xs ys) old)
 zip2_after_into f [] ys old now i k z e long lt same_x same_y is = absurd (omega (arith, lt, same_x))

@@ -23,7 +23,7 @@ pub record WholeSum : Type 0 where
   pub minus : ℕ
   pub terms : List WholeTerm
 
--- so many terms at most, and each coefficient and each number at most so large
+-- `count` terms at most, and no coefficient and no number above its bound
 pub record IsBounded (count coefficient number : ℕ) (sum : WholeSum) : Type 0 where
   pub few : length sum.terms ≤ count
   pub small : AllAtMost coefficient sum.terms

@@ -1,4 +1,4 @@
--- What the rules that stand on forms and ranges ask of them: of which atoms a form speaks, and that
+-- What the rules that stand on forms and ranges ask of them: what atoms a form speaks of, and that
 -- ranges hold numbers of 32 bits.
 use Rattle.std.specs.Prelude.{ℕ, ◌≡◌, ◌+◌, ◌^◌, ◌<◌, List, [], ◌∷◌, Some}
 use Rattle.linear_facts.specs.Words.{Term, Range}
@@ -30,7 +30,7 @@ SubstitutionsStayBelow =
     (n : ℕ) (forms : List Linear) (f : Linear) → ((a : ℕ) → AreBelow n (form_at forms a).terms)
     → AreBelow n (substituted forms f).terms
 
--- A form means the same wherever the atoms of which it may speak are the same numbers.
+-- A form means the same wherever the atoms that it may speak of are the same numbers.
 abbrev pub AgreeBelow : Type 0
 AgreeBelow =
     (n : ℕ) (v w : ℕ → ℕ) (f : Linear) → ((a : ℕ) → a < n → v a ≡ w a) → AreBelow n f.terms

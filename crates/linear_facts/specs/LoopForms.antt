@@ -29,9 +29,8 @@ moved_form base w n e v = record {
 abbrev pub left_form : ℕ → ℕ → Linear
 left_form n v = record { constant = 0; terms = term n 1 ∷ term v 4294967295 ∷ [] }
 
--- What is known of the atoms in the loop: of the N at most that there were, n are left, of which v
--- are done now, at most M,
--- and u later; e, at least L, was the number of them at entry.
+-- What is known of the atoms in the loop: of the N at most that there were, n are left. v of these
+-- are done now, at most M, and u later; e, at least L, was the number of them at entry.
 pub record IsLoop (table : AtomTable) (n e v u L N M : ℕ) : Type 0 where
   pub first : n < e
   pub second : e < v

@@ -24,7 +24,7 @@ pub record AtomTable : Type 0 where
   pub first : Option Change
   pub second : Option Change
 
--- an atom of which nothing is known
+-- an atom with nothing known of it
 abbrev pub unknown_atom : Atom
 unknown_atom = record { range = record { lo = 0; hi = 4294967295 }; split = None }
 

@@ -23,7 +23,7 @@ pub fn substitutions_stay_below()
     ensures { SubstitutionsStayBelow }
 {}
 
-/// A form means the same wherever the atoms of which it may speak are the same numbers.
+/// A form means the same wherever the atoms that it may speak of are the same numbers.
 pub fn agree_below()
     ensures { AgreeBelow }
 {}

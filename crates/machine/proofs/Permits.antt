@@ -171,7 +171,7 @@ steps_permitted vlenb m t e = (fetch_permitted vlenb m t e, carried)
 abbrev IsPermittedAt : ℕ → Machine → ℕ → Type 0
 IsPermittedAt vlenb m j = (u : Machine) → after vlenb m j ≡ Ok u → IsPermittedStep vlenb u
 
--- by induction on the steps, of which `after` takes the last one apart
+-- by induction on the steps: `after` takes the last one apart
 pub runs_permitted : StepsArePermitted → RunsArePermitted
 unfolding after
 runs_permitted permit vlenb m t zero e j below = absurd (omega arith)

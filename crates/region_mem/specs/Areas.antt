@@ -75,7 +75,7 @@ unfoldable pub byte_at : ℕ → List Area → Option ℕ
 byte_at address areas =
     option_map (λ area. slice_index area.bytes (address - area.first)) (find (holds address) areas)
 
--- the number of which these are the bytes, the lowest first
+-- the number with these bytes, the lowest first
 unfoldable pub number_of : List ℕ → ℕ
 number_of bytes = little_number (length bytes) bytes
 

@@ -1,5 +1,5 @@
 -- What a step answers, beside the definition that it follows; a fault's name, the number that it
--- carries, and how it is told.
+-- carries, and its words.
 use Rattle.std.specs.Prelude.{◌≡◌, ◌++◌, ℕ, List, codes, Result, Ok, Err}
 use Rattle.region_mem.specs.Digits.{digits_text}
 use Rattle.region_mem.specs.Words.{Fault}

@@ -13,7 +13,7 @@ kept u k old new below same before =
 pub kept_at : (u k at byte : ℕ) (old : List ℕ) → k ≤ u → k ≤ at → take u old ≡ zeros u → take k (set old at byte) ≡ zeros k
 kept_at u k at byte old below before was = kept u k old (set old at byte) below (take-set-le k old at byte before) was
 
--- bytes in front of which all is as it was
+-- bytes, and all in front of them as it was
 kept_before : (u k at : ℕ) (old after : List ℕ) → k ≤ u → k ≤ at → at ≤ length old → take u old ≡ zeros u → take k (take at old ++ after) ≡ zeros k
 kept_before u k at old after below before inside was =
     kept u k old _ below

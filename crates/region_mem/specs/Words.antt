@@ -1,5 +1,5 @@
--- Types of this crate that definitions speak of, the variants of which the name alone says
--- whose they are (another is named with its type, as `Param.Buffer`), and the addresses and
+-- Types of this crate that definitions speak of, the variants whose name alone says whose they
+-- are (another is named with its type, as `Param.Buffer`), and the addresses and
 -- sizes that are fixed.
 pub use Rattle.region_mem.specs.declared.parameter.{Param.Param, ArgError.ArgError}
 pub use Rattle.region_mem.specs.declared.parameter.Mode.TheVariants.{ReadWrite}

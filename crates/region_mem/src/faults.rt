@@ -55,7 +55,7 @@ impl Fault {
         }
     }
 
-    /// What went wrong, in words, behind which the number is told.
+    /// What went wrong, in words. The number follows them.
     fn words(self) -> &'static str
         ensures { result.now ≡ words_of self }
     {

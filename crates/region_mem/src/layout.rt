@@ -1,4 +1,4 @@
-//! Where the stack and the buffers lie. Where segments may lie is told by `elf_image`.
+//! Where the stack and the buffers lie. `elf_image` says where segments may lie.
 ghost use Rattle.std.specs.Prelude.{◌≡◌};
 ghost use Rattle.region_mem.specs.declared.layout.TheConstants.{BUFFERS, BUFFERS_END};
 ghost use Rattle.region_mem.specs.declared.layout.TheConstants.{MAX_BUFFER_SIZE, PAGE_SIZE, STACK};
@@ -24,7 +24,7 @@ pub const BUFFERS_END: u32 = HIGH_SEGMENTS;
 /// How many bytes a buffer has at most.
 pub const MAX_BUFFER_SIZE: u32 = 16 << 20;
 
-/// Buffers begin at multiples of this, and at least so many bytes lie between two of them.
+/// Buffers begin at multiples of this number, and at least that number of bytes lies between two of them.
 pub const PAGE_SIZE: u32 = 0x1000;
 
 /// Law: where the stack and the buffers lie, and how large a buffer is at most, in numbers.

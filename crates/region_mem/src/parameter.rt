@@ -207,7 +207,7 @@ impl Parameters {
     }
 
     /// Whether the arguments are of the parameters' kinds, then whether each scalar lies in its interval, then whether
-    /// each buffer has its parameter's size. The first of these that fails is told, at the lowest place where it does.
+    /// each buffer has its parameter's size. The first of these that fails is the answer, at the lowest place where it does.
     #[tactic(auto, unfolding(crate::specs::Parameter::argument_error, crate::specs::Parameter::refused_by))]
     pub fn matches<A: Allocator>(&self, args: &Args<Bytes<A>>) -> Result<(), ArgError>
         ensures meaning { result ≡ refused_by (argument_error self.now args.now.places) }

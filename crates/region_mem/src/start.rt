@@ -254,7 +254,7 @@ fn arg_with<A: Allocator>(place: Passed, regions: &mut IntoIter<Region<A>, A>) -
     }
 }
 
-/// The arguments of which these regions hold the buffers, in the order of their places.
+/// The arguments whose buffers these regions hold, in the order of their places.
 #[tactic(auto, unfolding(crate::specs::Memory::args_with))]
 pub(crate) fn args_with<A: Allocator>(
     passed: [Passed; 8],

@@ -22,7 +22,7 @@ failure_counted n = grind arith
 
 -- ---- a text, some bytes at a time
 
--- n more bytes of a text, of which `done` are written
+-- n more bytes of a text, with `done` of it written
 pub appends_more : (a b c : Option (List ℕ)) (text : List ℕ) (done n : ℕ)
     → Appends a b (take done text) → Appends b c (take n (drop done text)) → Appends a c (take (done + n) text)
 appends_more a b c text done n first more = rw (take-add done n text) (appends_both a b c _ _ first more)

@@ -1,4 +1,4 @@
--- What definitions here speak of that other crates define, and the variants of which the name alone
+-- What definitions here speak of that other crates define, and the variants whose name alone
 -- says whose they are; another is named with its type, as `LoadKind.Byte`.
 pub use Rattle.rv_decode.specs.declared.instructions.{Insn.Insn, ScalarInsn.ScalarInsn, CsrInsn.CsrInsn, Condition.Condition}
 pub use Rattle.rv_decode.specs.declared.instructions.{LoadKind.LoadKind, ImmediateOp.ImmediateOp, ShiftOp.ShiftOp}

@@ -153,7 +153,7 @@ impl Scalar {
     }
 
     /// A law, which does nothing when it runs: each state is that of a hart, with 32 registers of
-    /// 32 bits of which x0 is 0.
+    /// 32 bits, and x0 is 0.
     pub fn state_law(&self)
         ensures { IsHart self.now }
     {

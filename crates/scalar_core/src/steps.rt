@@ -23,7 +23,7 @@ use vreg_groups::Vconfig;
 /// a vector class does nothing here.
 ///
 /// A taken jump or branch to a target that is not a multiple of four is `JumpMisaligned` with the
-/// target; a load or store of which a byte isn't permitted is `LoadFault` or `StoreFault` with its
+/// target; a load or store with a byte that isn't permitted is `LoadFault` or `StoreFault` with its
 /// address. A step that faults changes nothing. `config` gives what vl and vtype read as, and `vlenb`
 /// what vlenb reads as, VLEN / 8 ("RV32I Base Integer Instruction Set", "M Extension for Integer
 /// Multiplication and Division", "Zicsr Extension for Control and Status Register Instructions").
@@ -56,7 +56,7 @@ pub fn step_scalar<A: Allocator>(
 /// The step of an instruction of RV32I or M in its flat form.
 ///
 /// A taken jump or branch to a target that is not a multiple of four is `JumpMisaligned` with the
-/// target; a load or store of which a byte isn't permitted is `LoadFault` or `StoreFault` with its
+/// target; a load or store with a byte that isn't permitted is `LoadFault` or `StoreFault` with its
 /// address. A step that faults changes nothing ("RV32I Base Integer Instruction Set", "M Extension
 /// for Integer Multiplication and Division").
 #[inline(always)]

@@ -7,8 +7,8 @@ use Rattle.vector_core.specs.Words.{Setup}
 abbrev pub first_element : ℕ → ℕ → ℕ → List ℕ → ℕ
 first_element vlenb size register file = element_at size (register * vlenb) file 0
 
--- the registers after element 0 of a register was written, of which all the rest is tail. Where vl
--- is 0 nothing is.
+-- the registers after element 0 of a register was written, whose rest is tail. Where vl is 0
+-- nothing is.
 unfoldable pub first_written : ℕ → Setup → ℕ → ℕ → ℕ → List ℕ → List ℕ
 first_written vlenb s size register result file =
     if s.vl == 0 then file

@@ -9,7 +9,7 @@ use crate::setup::Setup;
 use rv_decode::Reg;
 use vreg_groups::VregFile;
 
-/// Writes element 0 of a register, of which all the rest is tail: nothing where vl is 0.
+/// Writes element 0 of a register, whose rest is tail: nothing where vl is 0.
 #[tactic(auto, unfolding(crate::specs::Singles::first_written))]
 pub fn write_first<E: VectorElement, const VLENB: usize>(
     registers: &mut VregFile<VLENB>,

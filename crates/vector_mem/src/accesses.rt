@@ -13,7 +13,7 @@ use region_mem::Right;
 use rv_decode::{Addressing, Direction, VMem};
 use vreg_groups::{MOST_ELEMENTS, Setup, VregFile};
 
-/// The accesses of the active elements, of which number i lies at `address(i)`.
+/// The accesses of the active elements. Element i lies at `address(i)`.
 fn plan<F: Fn(usize) -> u32>(right: Right, size: u8, active: &[bool], address: F) -> AccessPlan
     requires few { length active.now ≤ MOST_ELEMENTS }
     requires callable { (i : ℕ) → i < length active.now → F.pre address i }

@@ -13,8 +13,7 @@ use crate::elements::{Datum, splat};
 use region_mem::{Regions, Right};
 use std::alloc::Allocator;
 
-/// Loads the active elements, of which number i lies at `address(i)`, or answers the address of the first that may not be
-/// loaded.
+/// Loads the active elements, or answers the address of the first that may not be loaded. Element i lies at `address(i)`.
 #[tactic(auto, unfolding(crate::specs::Accesses::first_refused, crate::specs::Accesses::loaded))]
 fn load_active<E: Datum, A: Allocator, F: Fn(usize) -> u32>(
     active: &[bool],
@@ -80,8 +79,8 @@ pub fn load_indexed<E: Datum, A: Allocator>(
     load_active(active, |i| base.wrapping_add(indices[i]), memory, values)
 }
 
-/// Stores the active elements, of which number i lies at `address(i)`, or answers the address of the first that may not be
-/// stored, and stores none.
+/// Stores the active elements, or answers the address of the first that may not be stored, and stores none. Element i lies
+/// at `address(i)`.
 #[tactic(auto, unfolding(crate::specs::Accesses::first_refused, crate::specs::Accesses::stored))]
 fn store_active<E: Datum, A: Allocator, F: Fn(usize) -> u32>(
     active: &[bool],

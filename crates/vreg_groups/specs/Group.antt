@@ -25,7 +25,7 @@ group_of t vl first eew =
 abbrev pub mask_bytes_of : ℕ → ℕ → Span
 mask_bytes_of vl first = record { first = first; count = 1; bytes = 1; vl = (vl + 7) / 8 }
 
--- whole registers as elements of this width, all of which are the body
+-- whole registers as elements of this width, all of them in the body
 abbrev pub whole_of : ℕ → ℕ → Count → Width → Span
 whole_of vlenb first count width =
     record {

@@ -73,7 +73,7 @@ impl<const VLENB: usize> Group<VLENB> {
         }
     }
 
-    /// Whole registers as elements of this width, all of which are the body.
+    /// Whole registers as elements of this width, all of them in the body.
     pub fn whole(first: Reg, count: Count, width: Width) -> Group<VLENB>
         requires vlenb { IsVlenb VLENB }
         requires inside { first + whole_count count ≤ 32 }

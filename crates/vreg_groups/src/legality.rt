@@ -71,7 +71,7 @@ pub fn legal_access_type(config: &Vconfig, access: &VMem) -> Option<Vtype>
 }
 
 // Whether an instruction is one of the most common, and legal. Its operands, if it has any, have elements of one width, so
-// how they overlap does not matter, and this is told without a look at each pair.
+// how they overlap does not matter, and the answer needs no look at each pair.
 #[inline(always)]
 #[tactic(auto, unfolding(rv_decode::specs::Needs::needs_of, rv_decode::specs::Needs::needs_of_arith, crate::specs::Legality::are_operands_legal, crate::specs::Legality::is_destination_legal, crate::specs::Legality::is_common, crate::specs::Legality::is_in_a_row))]
 fn is_plain(vtype: Option<Vtype>, insn: &Insn) -> bool

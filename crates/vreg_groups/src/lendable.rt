@@ -1,4 +1,4 @@
-//! An array, any part of which can be lent to be written.
+//! An array that lends any part of it to be written.
 
 ghost use Rattle.std.specs.Prelude.{◌≡◌, ◌+◌, ◌≤◌, take, drop};
 ghost use Rattle.std.specs.Borrow.{sem};
