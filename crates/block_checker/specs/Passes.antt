@@ -18,7 +18,7 @@ use Rattle.block_checker.specs.Refusals.{refusal}
 abbrev pub Checked : Type 0
 Checked = Result (Unit {0}) CheckError
 
--- Of two parts the first one's error is told first.
+-- Of two parts the first one's error comes first.
 abbrev pub both : Checked → Checked → Checked
 both (Ok done) next = next
 both (Err error) next = Err error
@@ -128,7 +128,7 @@ then_on (Err error) on = Err error
 then_on (Ok Ended) on = Ok tt
 then_on (Ok (On a)) on = on a
 
--- The words from pc on, of which there may be so many, until the block ends.
+-- The words from pc on until the block ends. The first number is the most that there may be.
 unfoldable pub walk : ImageView → CertificateView → ℕ → ℕ → AbstractView → Checked
 walk image certificate zero pc a = Err (BlockTooLong pc)
 walk image certificate (suc more) pc a =

@@ -1,5 +1,5 @@
--- The error of what could not be proved at a word; the name and the address of each error, and how
--- it is told.
+-- The error of what could not be proved at a word. The name, the address and the text of each
+-- error.
 use Rattle.std.specs.Prelude.{ℕ, ◌≡◌, ◌++◌, List, Option, Some, None, codes}
 use Rattle.region_mem.specs.Digits.{digits_text}
 use Rattle.block_checker.specs.Words.{CheckError, Why}

@@ -1,6 +1,6 @@
--- How the check of a word is told by code: how the word leads on, whether the block goes on, and
--- apart from that what is known at the next word; which blocks a search passes over; and where a
--- walk stops.
+-- What code answers for the check of a word: how the word leads on, whether the block goes on, and
+-- apart from that what is known at the next word. Also which blocks a search passes over, and where
+-- a walk stops.
 use Rattle.std.specs.Prelude.{ℕ, ◌≡◌, ◌-◌, ◌/◌, nat_lt, Bool, true, false, List, Some, Result, Ok, Err}
 use Rattle.std.specs.List.Sorted.{IsPartitionPoint}
 use Rattle.block_checker.specs.Words.{ImageView, CertificateView, AbstractView, Block, CheckError}
@@ -38,7 +38,7 @@ progress_of (Ok told.Ended) a = Ok Ended
 progress_of (Ok told.On) a = Ok (On a)
 progress_of (Err e) a = Err e.0
 
--- So many blocks, the first ones, begin below the address.
+-- The first `count` blocks begin below the address, and no other block does.
 abbrev pub IsCountBelow : ℕ → List Block → ℕ → Type 0
 IsCountBelow address blocks count =
     IsPartitionPoint (λ block. nat_lt block.start address ≡ true)

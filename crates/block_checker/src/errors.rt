@@ -89,7 +89,7 @@ impl CheckError {
         }
     }
 
-    /// What is wrong, in words, behind which the address is told.
+    /// What is wrong, in words. The address, if there is one, follows them.
     fn words(self) -> &'static str
         ensures { result.now ≡ words_of self }
     {

@@ -20,12 +20,12 @@ pub enum Part {
     Block(u32),
 }
 
-/// Of which place a stop keeps what is known.
+/// The place at which a stop's state is known.
 #[derive(Clone, Copy, PartialEq, Eq)]
 pub enum Kept {
     /// Before a word that is refused.
     Before,
-    /// Behind a word of which a way out is refused, or where a run begins.
+    /// Behind a word with a refused way out, or where a run begins.
     Behind,
     /// Behind the last word of a block that is too long.
     End,
@@ -39,7 +39,7 @@ pub struct Stop<A: Allocator = Global> {
     /// The address of the word at which it stopped: the image's entry on the way into the first block, and of a block
     /// that is too long the address behind its last word.
     pub pc: u32,
-    /// Of which place this is known.
+    /// The place at which the state is known.
     pub kept: Kept,
     /// What is known there.
     pub state: Abstract<A>,
@@ -61,7 +61,7 @@ pub struct Spot {
     pub part: Part,
     /// The address of the word at which it stopped.
     pub pc: u32,
-    /// Of which place the stop keeps what is known.
+    /// The place at which the stop's state is known.
     pub kept: Kept,
     /// The word there, if there is code.
     pub word: Option<u32>,

@@ -189,7 +189,7 @@ module _ (fit : MeaningsFit) (image : ImageView) (params : List Param) (vlen : V
   unfolding last_block_of
   returns blocks = returns-pass image (view_of vlen params blocks) (start + 4 * words) read.last read.last_at read.last_is
 
-  -- ---- of blocks of which the first leads to the loop, where it is entered, and to the last
+  -- ---- of blocks whose first leads to the loop, where it is entered, and to the last
 
   there : (blocks : List Block) → block_at (start + 4 * words) blocks ≡ Some last_block_of → (1 ≤ through.0.most → block_at start blocks ≡ Some loop_block_of)
       → AreThere (view_of vlen params blocks) k (offset_by image.entry read.first_is.offset) (next_word image.entry)

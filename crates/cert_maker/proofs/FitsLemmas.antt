@@ -8,7 +8,7 @@ use Rattle.region_mem.specs.Parameter.{is_valid, parameters_of}
 use Rattle.cert_note.specs.Certificate.{FitsWords, IsParameter}
 use Rattle.cert_maker.specs.Make.{FitsAt, AreParameters}
 
--- so many from the first on
+-- the first `n` of them fit
 pub record FitBelow (params : List Param) (n : ℕ) : Type 0 where
   pub at : (i : ℕ) → i < n → FitsAt params i
 

@@ -81,7 +81,7 @@ register_goes k pc op rd rs1 rs2 a next w n = (
   (within_on k pc a _ _ w, n),
 )
 
--- ---- numbers of which one is set
+-- ---- numbers with one of them set
 
 loop_is : (s : NumbersView) (i : ℕ) (v : ValueView) {n e a b L N M : ℕ} → IsLoop (table_of s) n e a b L N M
     → IsLoop (table_of (with_value i v s)) n e a b L N M

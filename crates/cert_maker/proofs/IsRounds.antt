@@ -1,4 +1,4 @@
--- A loop that is read through is a round of which all is true that the check needs.
+-- A loop that is read through is a round, and all that the check needs is true of it.
 use Rattle.std.proofs.Common.{◌≡◌, ◌≢◌, ℕ, ◌+◌, ◌-◌, ◌*◌, ◌^◌, ◌<◌, ◌≤◌, inl, inr, zero, suc, Bool, true, false, refl, sym, ap, ◌∙◌, subst, arith, Some, None, List, [], ◌∷◌, length}
 use Rattle.std.proofs.Math.Nat.{mul_comm}
 use Rattle.std.specs.Prelude.{Result, Ok, if◌then◌else◌}

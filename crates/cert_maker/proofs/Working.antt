@@ -192,7 +192,7 @@ module _ (k : Round) (is : IsRound k) (pc : ℕ) (a : AbstractView) (inside : Is
         kept (VMem insn) next refl
         (goes_on pc (VMem insn) a (legal_there k.loop.vtype (VMem insn) a.vtype inside.vtype legal) (access_ok insn plain l g p may) refl refl) numbers
 
--- a register that holds a buffer of so many bytes
+-- a register that holds a buffer of at least `bytes` bytes
 buffer_in : (params : List Param) (r bytes : ℕ) (d : Direction) → option_map_or (is_buffer_for d bytes) (parameter_in params r) false ≡ true
     → (10 ≤ r) × (r < 18) × (option_map_or (is_buffer_for d bytes) (slice_get params (r - 10)) false ≡ true)
 unfolding parameter_in

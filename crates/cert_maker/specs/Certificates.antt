@@ -64,7 +64,7 @@ abbrev pub loop_facts : List Param → Loop → List RegisterFact
 loop_facts params loop =
     facts_by (stated_by loop (loop_count loop) (λ place. loop_pointer params loop place))
 
--- as many instructions as a constant and so many for each one in the register
+-- `constant` instructions, and `factor` for each one in the register
 abbrev pub budget : ℕ → ℕ → ℕ → Budget
 budget constant factor register = record {
   constant = constant;
@@ -90,7 +90,7 @@ loop_blocks params start loop words =
     if loop.most == 0 then []
     else block start (budget 1 words loop.count) (loop_facts params loop) ∷ []
 
--- the certificate of a loop of so many instructions that begins at the entry's second word
+-- the certificate of a loop of `words` instructions that begins at the entry's second word
 unfoldable pub certificate_of : ImageView → List Param → Vlen → Loop → ℕ → CertificateView
 certificate_of image params vlen loop words = record {
   version = V1;

@@ -222,8 +222,8 @@ pub record IsCount (s : NumbersView) (n t e L N M : ℕ) : Type 0 where
   pub least : L ≤ N
   pub progress : 1 ≤ M
 
--- Behind the word that sets vl: vl and its register are a new atom, of which the count is made;
--- all else stays.
+-- Behind the word that sets vl: vl and its register are a new atom. The count is made of it. All
+-- else stays.
 pub record IsSet (s new : NumbersView) (n t e L N M : ℕ) : Type 0 where
   pub forms : length new.forms ≡ 33
   pub ranges : length new.ranges ≡ 33

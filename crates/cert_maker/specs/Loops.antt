@@ -66,7 +66,7 @@ may_be direction.Load access = true
 may_be direction.Store mode.Read = false
 may_be direction.Store mode.ReadWrite = true
 
--- a buffer of at least so many bytes, to which this may be done
+-- a buffer of at least `bytes` bytes, to which this may be done
 unfoldable pub is_buffer_for : Direction → ℕ → Param → Bool
 is_buffer_for d bytes parameter.None = false
 is_buffer_for d bytes (parameter.Scalar lo hi) = false
@@ -242,8 +242,8 @@ then_read start pc (Some (Moves loop step left)) more = more (Moves loop step le
 then_read start pc (Some (Back loop)) more = more (Back loop)
 then_read start pc (Some (Through loop)) more = Ok (loop, (pc - start) / 4 + 1)
 
--- No word of code lies at 0xC000_0000 or above, so that so many words from the entry on
--- are never read.
+-- No word of code lies at 0xC000_0000 or above. So 0x3000_0000 words from the entry on are never
+-- read.
 unfoldable pub loop_from : ImageView → List Param → ℕ → ℕ → ℕ → Reading → Result (Loop × ℕ) ℕ
 loop_from image params start zero pc reading = Err pc
 loop_from image params start (suc more) pc reading =

@@ -187,7 +187,7 @@ fn facts(spot: Spot, parameters: &Parameters, of: &Loop) -> ArrayVec<RegisterFac
     facts
 }
 
-/// At most so many instructions, and so many for each one in the register.
+/// At most `constant` instructions, and `factor` for each one in the register.
 fn budget(constant: u32, factor: u32, register: u8) -> Budget
     ensures { result ≡ budget_of constant factor register }
 {
@@ -214,7 +214,7 @@ fn block(start: u32, budget: Budget, registers: ArrayVec<RegisterFact, 32>) -> B
     }
 }
 
-/// The blocks of the certificate of a loop of so many instructions, which begins at the entry's second word.
+/// The blocks of the certificate of a loop of `words` instructions, which begins at the entry's second word.
 pub(crate) fn blocks<A: Allocator>(
     alloc: A,
     entry: u32,

@@ -351,7 +351,7 @@ fn may_be(direction: Direction, mode: Mode) -> bool
     }
 }
 
-/// A buffer of at least so many bytes, to which this may be done.
+/// A buffer of at least `bytes` bytes, to which this may be done.
 #[tactic(auto, unfolding(crate::specs::Loops::is_buffer_for))]
 fn is_buffer_for(direction: Direction, bytes: u64, param: Param) -> bool
     ensures { result ≡ is_buffer_for_of direction bytes param }

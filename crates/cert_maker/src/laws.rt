@@ -42,7 +42,7 @@ pub fn pointers_return()
     ensures { PointersReturn }
 {}
 
-/// Behind vsetvli vl and its register are a new atom, of which the count is made, and all else is as it was.
+/// Behind vsetvli vl and its register are a new atom. The count is made of it, and all else is as it was.
 pub fn lengths_are_set()
     ensures { LengthsAreSet }
 {}

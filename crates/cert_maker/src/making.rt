@@ -58,7 +58,7 @@ fn most_fits(of: &Loop)
     let _most: u32 = of.most;
 }
 
-/// The certificate of a loop of so many instructions.
+/// The certificate of a loop of `words` instructions.
 fn certificate<A: Allocator, B: Allocator>(
     alloc: A,
     image: &Image<B>,

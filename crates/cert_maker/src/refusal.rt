@@ -8,7 +8,7 @@ use elf_image::Image;
 use rv_decode::{Insn, ScalarInsn, decode, vector_arithmetic};
 use std::alloc::{AllocError, Allocator};
 
-/// The rows of a plain loop, as docs/MAKE.md has them, of which one is wanted at an address.
+/// The rows of a plain loop, as docs/MAKE.md has them. One of them is wanted at an address.
 #[derive(Clone, Copy)]
 pub enum LoopRow {
     /// The first, at the entry.

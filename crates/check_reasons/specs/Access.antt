@@ -67,7 +67,7 @@ operand_of (insn.VPerm i) = None
 operand_of (insn.VReduce i) = None
 operand_of (insn.VMove i) = None
 
--- so many bytes, the first of which has its address in a range
+-- where `size` bytes may lie, with the address of the first one in a range
 abbrev pub reach_from : Range → ℕ → Reach
 reach_from r size = record { first = r.lo; end = r.hi + size }
 

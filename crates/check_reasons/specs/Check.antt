@@ -1,4 +1,4 @@
--- Why an image is refused with its certificate, and in which words it is told.
+-- Why an image is refused with its certificate, and the words for it.
 use Rattle.std.specs.Prelude.{◌≡◌, ℕ, ◌++◌, List, [], length, codes, Option, Some, None, String, option_map, string_bytes}
 use Rattle.std.specs.Fmt.{decimal}
 use Rattle.std.specs.Option.{option_and_then}
@@ -41,7 +41,7 @@ use Rattle.check_reasons.specs.declared.edge.Edge.{Edge}
 use Rattle.check_reasons.specs.declared.check.Wanted.{Wanted}
 use Rattle.check_reasons.specs.declared.check.Wanted.TheVariants as wanted
 
--- ---- what is told
+-- ---- what a reason holds
 
 -- a stop's place, with the word there
 abbrev pub spot_of : {A : Type 0} → ImageView → Stop A → Spot
@@ -100,7 +100,7 @@ access_elements word before =
 abbrev pub interval_in : ℕ → Option AbstractView → Option Range
 interval_in r before = option_map (λ a. (value_at a.numbers r).range) before
 
--- What is told of a load or store: what is known of its base register, how the elements of a
+-- What a reason holds of a load or store: what is known of its base register, how the elements of a
 -- vector instruction lie, where its bytes may lie, and all zones.
 abbrev pub IsAccessOf : ImageView → CertificateView → Option ℕ → Option AbstractView
     → Option Operand → Wanted → Type 0
@@ -123,8 +123,8 @@ abbrev pub IsAccess : ImageView → CertificateView → Option ℕ → Option Ab
 IsAccess image certificate word before told =
     IsAccessOf image certificate word before (access_operand word) told
 
--- what is told of a word that is not legal, if it means an instruction: what is known of vl, and
--- its operands
+-- what a reason holds of a word that is not legal, if it means an instruction in a known state:
+-- what is known of vl, and its operands
 abbrev pub illegal_at : Option Insn → Option AbstractView → Wanted
 illegal_at (Some insn) (Some a) =
     wanted.Illegal (value_at a.numbers VL).range (illegal_in (kept_vtype a.vtype) insn)
@@ -165,8 +165,8 @@ abbrev pub if_edge : Option Edge → Wanted
 if_edge None = wanted.Plain
 if_edge (Some edge) = wanted.Edge edge
 
--- What is wanted at pc in a part of the check. Behind a word it is told of the way out that is
--- refused, exactly.
+-- What is wanted at pc in a part of the check. Behind a word it is exactly the way out that is
+-- refused.
 abbrev pub IsWantedAt : ImageView → CertificateView → Vlen → CheckError → Part → ℕ → Kept → Wanted
     → Type 0
 IsWantedAt image certificate bits e p pc kept.Behind told =

@@ -1,4 +1,4 @@
--- The way out of a word that the check refused, and in which words it is told.
+-- The way out of a word that the check refused, and the words for it.
 use Rattle.std.specs.Prelude.{Bool, true, false, ◌&&◌, ◌==◌, ℕ, ◌++◌, List, [], codes, Option, Some, None, is_some, option_map, if◌then◌else◌}
 use Rattle.std.specs.Fmt.{decimal}
 use Rattle.std.specs.List.{slice_get}
@@ -31,7 +31,7 @@ use Rattle.check_reasons.specs.declared.edge.Left.{Left}
 use Rattle.check_reasons.specs.declared.edge.Source.{Source}
 use Rattle.check_reasons.specs.declared.gaps.Gap.{Gap}
 
--- ---- what is told
+-- ---- what a reason holds
 
 abbrev pub left_at : ℕ → Option Block → Option Left
 left_at place None = None
@@ -131,7 +131,7 @@ unfoldable pub end_of : CheckError → Option Budget → EdgeView → Option Gap
 end_of error own e =
     if is_of_budget error && is_end e then option_map (λ b. gap_of e b no_budget) own else None
 
--- what is told of an edge behind a word, out of a part of the check, which has this error
+-- what a reason with this error holds of an edge behind a word, out of a part of the check
 unfoldable pub edge_told : CertificateView → CheckError → Part → Option ℕ → EdgeView → Edge
 edge_told certificate error part word e = record {
   target = e.target;
@@ -142,13 +142,13 @@ edge_told certificate error part word e = record {
   end = end_of error (budget_of (left_of certificate part)) e;
 }
 
--- what is told of the edge that is refused behind the word at pc
+-- the same of the edge that is refused behind the word at pc
 unfoldable pub edge_from : CertificateView → CheckError → Part → ℕ → Option ℕ → AbstractView
     → Option Edge
 edge_from certificate error part pc word a =
     option_map (edge_told certificate error part word) (refused_edge certificate pc a)
 
--- what is told where a part of the check stops at pc with this error: the edge that is refused
+-- the same of the edge that is refused where a part of the check stops at pc with this error
 unfoldable pub edge_at : ImageView → CertificateView → CheckError → Part → ℕ → Option Edge
 edge_at image certificate error part pc =
     option_and_then (edge_from certificate error part pc (code_at pc image))

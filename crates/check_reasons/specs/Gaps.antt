@@ -1,4 +1,4 @@
--- By how much a budget is too small on a way, and in which words it is told.
+-- By how much a budget is too small on a way, and the words for it.
 use Rattle.std.specs.Prelude.{ℕ, ◌+◌, ◌-◌, ◌++◌, ◌&&◌, min, List, codes, if◌then◌else◌}
 use Rattle.std.specs.Fmt.{decimal}
 use Rattle.cert_note.specs.declared.values.Budget.{Budget}
@@ -11,7 +11,7 @@ use Rattle.abs_state.specs.Edges.{Total, least_of, most_of, next_total, own_tota
 use Rattle.check_reasons.specs.declared.gaps.Gap.{Gap}
 use Rattle.check_reasons.specs.declared.gaps.TheConstants.{MOST_LACK}
 
--- ---- what is told
+-- ---- what a reason holds
 
 -- how far the lower bound of a sum in whole numbers is below 0
 unfoldable pub short_of : AtomTable → WholeSum → ℕ
@@ -26,7 +26,7 @@ least_more table own own_of next next_of most =
     then min most (short_of table (difference_of table own own_of next next_of))
     else most
 
--- a lack that is larger is told as this
+-- a lack above MOST_LACK counts as MOST_LACK
 abbrev pub told_lack : ℕ → ℕ
 told_lack lack = min lack MOST_LACK
 

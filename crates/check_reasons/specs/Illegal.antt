@@ -1,4 +1,4 @@
--- What is told of a word that is not legal under the vector type that is held.
+-- Why a word is not legal under what vtype holds, and the words for it.
 use Rattle.std.specs.Prelude.{Bool, true, false, ℕ, ◌==◌, ◌++◌, List, [], codes, Option, Some, None, option_map, if◌then◌else◌}
 use Rattle.std.specs.Fmt.{decimal}
 use Rattle.rv_decode.specs.Needs.{needs_of}
@@ -14,7 +14,7 @@ use Rattle.check_reasons.specs.declared.illegal.Illegal.{Illegal}
 use Rattle.check_reasons.specs.declared.rules.Rule.{Rule}
 use Rattle.check_reasons.specs.declared.vtypes.HeldVtype.{HeldVtype}
 
--- ---- what is told
+-- ---- what a reason holds
 
 -- the registers of an operand, and the width of its elements under a type that is supported
 abbrev pub group_of : Option Vtype → Operand → Group

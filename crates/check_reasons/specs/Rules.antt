@@ -1,4 +1,4 @@
--- Which rule on operands in vector registers an instruction breaks, and in which words it is told.
+-- Which rule on operands in vector registers an instruction breaks, and the words for it.
 use Rattle.std.specs.Prelude.{◌≡◌, Bool, true, false, not, ℕ, ◌==◌, ◌%◌, ◌++◌, nat_le, List, codes, Option, Some, None, if◌then◌else◌}
 use Rattle.std.specs.Fmt.{decimal}
 use Rattle.std.specs.Option.{option_and_then, option_or}
@@ -14,7 +14,7 @@ use Rattle.check_reasons.specs.declared.rules.Role.TheVariants as role
 use Rattle.check_reasons.specs.declared.rules.Rule.{Rule}
 use Rattle.check_reasons.specs.declared.rules.Rule.TheVariants as rule
 
--- ---- what is told
+-- ---- what a reason holds
 
 -- the operand's first register is at a multiple of how many it has
 abbrev pub multiple_rule : Role → ℕ → ℕ → Option Rule

@@ -1,4 +1,4 @@
--- In which words an interval is told, and that of vl.
+-- The words for an interval, and for that of vl.
 use Rattle.std.specs.Prelude.{ℕ, ◌++◌, List, codes}
 use Rattle.linear_facts.specs.declared.ranges.Range.{Range}
 use Rattle.explanations.specs.Address.{address_text}

@@ -23,7 +23,7 @@ atom_text atom =
 unfoldable pub times_text : ℕ → List ℕ
 times_text k = if k == 1 then [] else decimal k ++ codes " * "
 
--- a coefficient from 2^31 on is told as what is taken away
+-- a coefficient from 2^31 on stands for what is taken away
 abbrev pub less_of : Term → ℕ
 less_of t = 2 ^ 32 - t.coefficient
 
@@ -44,7 +44,7 @@ first_text t =
 unfoldable pub terms_text : List Term → List ℕ
 terms_text terms = flat_map term_text terms
 
--- a constant of 0 is told where it stands alone
+-- a constant of 0 has a text only where it stands alone
 unfoldable pub sum_of : ℕ → List Term → List ℕ
 sum_of constant [] = address_text constant
 sum_of constant (t ∷ ts) =

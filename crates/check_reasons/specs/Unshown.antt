@@ -1,4 +1,4 @@
--- What of the block entered is not shown on a way to it, and in which words it is told.
+-- What of the block entered is not shown on a way to it, and the words for it.
 use Rattle.std.specs.Prelude.{ℕ, ◌++◌, not, find, List, [], codes, Option, Some, None}
 use Rattle.cert_note.specs.declared.values.Block.{Block}
 use Rattle.cert_note.specs.declared.values.Budget.{Budget}
@@ -24,7 +24,7 @@ use Rattle.check_reasons.specs.declared.unshown.Unshown.{Unshown}
 use Rattle.check_reasons.specs.declared.unshown.Unshown.TheVariants as unshown
 use Rattle.check_reasons.specs.declared.vtypes.HeldVtype.{HeldVtype}
 
--- ---- what is told
+-- ---- what a reason holds
 
 -- a register, or vl, with what is known of it on the edge
 unfoldable pub number_on : EdgeView → ℕ → Number
@@ -106,7 +106,7 @@ unshown_of error.NoMemory own e block = unshown.Untold
 
 -- ---- the words
 
--- a line on a register: words before it, and what is told of it behind a relation
+-- a line on a register: words before it, and what stands behind a relation
 abbrev pub register_line : List ℕ → ℕ → List ℕ → List ℕ → List ℕ
 register_line lead register relation told =
     lead ++ (name_text register ++ (relation ++ (told ++ codes "\n")))

@@ -1,4 +1,4 @@
--- What vtype holds, and in which words it is told.
+-- What vtype holds, and the words for it.
 use Rattle.std.specs.Prelude.{Bool, true, false, ℕ, ◌++◌, List, codes, Option, Some, None, is_some, if◌then◌else◌}
 use Rattle.std.specs.Fmt.{decimal}
 use Rattle.rv_decode.specs.Instructions.{bits_of_width}
@@ -9,7 +9,7 @@ use Rattle.vreg_groups.specs.declared.vector_type.Vtype.{Vtype}
 use Rattle.check_reasons.specs.declared.vtypes.HeldVtype.{HeldVtype}
 use Rattle.check_reasons.specs.declared.vtypes.HeldVtype.TheVariants as held
 
--- ---- what is told
+-- ---- what a reason holds
 
 -- what the register vtype holds; a type that is not supported counts as vill
 abbrev pub held_of : ℕ → HeldVtype

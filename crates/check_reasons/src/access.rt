@@ -155,7 +155,7 @@ pub(crate) fn operand_of(insn: &Insn) -> Option<Operand>
     }
 }
 
-/// So many bytes, the first of which has its address in a range.
+/// Where `size` bytes may lie, with the address of the first one in `range`.
 fn reach_from(range: Range, size: u8) -> Reach
     ensures { result ≡ reach_from_of range size }
 {
@@ -299,7 +299,7 @@ impl fmt::Display for ZoneName<'_> {
     }
 }
 
-/// A zone, as a line. A zone without a byte is told by its first address alone.
+/// A zone, as a line: its name, its first address, its end, and its rights.
 #[derive(Clone, Copy)]
 struct ZoneLine<'a> {
     name: ZoneName<'a>,

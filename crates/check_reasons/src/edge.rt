@@ -202,7 +202,7 @@ fn end_gap<A: Allocator>(
     }
 }
 
-/// What is told of a way out behind a word.
+/// A way out behind a word, as a reason holds it.
 #[tactic(auto, unfolding(crate::specs::Edge::edge_told))]
 fn told<A: Allocator, C: Allocator>(
     certificate: &Certificate<C>,

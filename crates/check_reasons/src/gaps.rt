@@ -11,7 +11,7 @@ use linear_facts::{Atoms, Multiple, is_at_least};
 use std::alloc::Allocator;
 use std::fmt;
 
-/// A lack that is larger is told as this one.
+/// The largest lack in a reason. A larger one counts as this one.
 pub const MOST_LACK: u64 = 1 << 63;
 
 /// What the end of a run asks for.

@@ -17,8 +17,8 @@ const PASSED: u16 = abs_domain::VL as u16 + 1;
 /// The first atom of what an instruction left.
 const FRESH: u16 = PASSED + 8;
 
-/// A sum modulo 2^32. Its atoms are x1 to x31 and vl where a block begins, the numbers that were passed, by
-/// place, and numbers that an instruction left of which no more is known.
+/// A sum modulo 2^32. Its atoms are x1 to x31 and vl where a block begins, and the numbers that were passed,
+/// by place. Any other atom is an unknown number that an instruction left.
 #[derive(Drop)]
 pub struct Sum<const N: usize> {
     pub constant: u32,
@@ -128,7 +128,7 @@ impl fmt::Display for Times {
     }
 }
 
-/// Whether a multiple of an atom is told as one that is added.
+/// Whether the text adds a multiple of an atom. It takes away any other.
 fn is_added(term: Term) -> bool
     ensures { result ≡ is_added_of term }
 {

@@ -1,4 +1,4 @@
-//! vtype, as it is told.
+//! What vtype holds, in words.
 ghost use Rattle.std.specs.Prelude.{◌≡◌};
 ghost use Rattle.check_reasons.specs.Vtypes.{held_of, kept_vtype, lmul_text, mask_text};
 ghost use Rattle.check_reasons.specs.Vtypes.{tail_text, vtype_in};

@@ -61,7 +61,7 @@ memory_for : (kinds : Kinds) (cut : Type 0) (s : Status) → (s ≡ status.Memor
 memory_for kinds cut s (inl is) = subst (λ (t : Status). IsRefusal kinds cut t) (sym is) tt
 memory_for kinds cut s (inr is) = subst (λ (t : Status). IsRefusal kinds cut t) (sym is) tt
 
--- what is told of a refusal of the words fits `clap`'s faults
+-- the status for a refusal of the words fits `clap`'s faults
 pub told_for : (kinds : Kinds) (error : LineError) (cut : Type 0) (s : Status) → IsFaultIn kinds error
     → (is_request error ≡ false → (s ≡ status_of_line error) ⊎ (s ≡ status.Memory))
     → (is_request error ≡ true → Answers cut s) → IsStatusFor kinds cut s
@@ -101,7 +101,7 @@ silent (k ∷ ks) e status.File is = tt
 silent (k ∷ ks) e status.Memory is = is
 silent (k ∷ ks) e status.Stopped is = tt
 
--- a fault is told on standard error alone
+-- a fault is printed on standard error alone
 pub silent_for : (kinds : Kinds) (error : LineError) (e : Exchange) (cut : Type 0) (s : Status)
     → (is_request error ≡ false → e.has ≡ e.had) → (s ≡ status.Memory → e.has ≡ e.had)
     → (is_request error ≡ true → Answers cut s) → IsSilent kinds e s

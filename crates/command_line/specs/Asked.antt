@@ -1,4 +1,4 @@
--- How a fault of the words is told.
+-- The answer to a fault of the words.
 use Rattle.std.specs.Prelude.{Bool, true, false}
 use Rattle.clap.specs.declared.error.kind.ErrorKind.{ErrorKind}
 use Rattle.clap.specs.declared.error.kind.ErrorKind.TheVariants.{DisplayHelp, DisplayVersion}

@@ -49,7 +49,7 @@ abbrev pub IsUntouched : Kinds → Option Held → Option Held → Option Input 
 IsUntouched [] was has old new e = Unit {0}
 IsUntouched kinds was has old new e = (has ≡ was) × (new ≡ old) × (e.after ≡ e.before)
 
--- and where that is told, or memory ran out, nothing is printed on standard output
+-- and where that is the answer, or memory ran out, nothing is printed on standard output
 abbrev pub IsSilent : Kinds → Exchange → Status → Type 0
 IsSilent [] e s = Unit {0}
 IsSilent kinds e status.Usage = e.has ≡ e.had
@@ -125,7 +125,7 @@ abbrev pub status_without_words : IoErrorKind → Status
 status_without_words OutOfMemory = status.Memory
 status_without_words _ = status.Usage
 
--- and what is told of them, by the status
+-- and the text for them, by the status
 abbrev pub text_without_words : Status → List ℕ
 text_without_words status.Memory = stop_text stop.Memory
 text_without_words _ = codes "error: the words are not UTF-8\n"

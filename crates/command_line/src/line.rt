@@ -180,7 +180,7 @@ fn make_command<'a>(alloc: Global) -> Result<Command<'a>, AllocError>
     with_flag(alloc, out, "explain", EXPLAIN)
 }
 
-/// `command` with one more subcommand, if that was made. Its version is told as the program's.
+/// `command` with one more subcommand, if that was made. Its version is printed as the program's.
 fn with<'a>(
     command: Command<'a>,
     sub: Result<Command<'a>, AllocError>,
@@ -291,7 +291,7 @@ fn line_of<'a>(matches: &ArgMatches<'a>) -> Option<Line<'a>>
     }
 }
 
-/// What the words ask for, of which the first is the program's name.
+/// What the words ask for. The first is the program's name.
 ///
 /// A `Line` is what `clap`'s matches give. `LineError::Usage` comes exactly where `clap` refuses the
 /// words, or where they ask for help or the version; its error has `clap`'s text and exit code.

@@ -48,8 +48,8 @@ impl Termination for Ended {
     }
 }
 
-/// Does what the words ask for, of which the first is the program's name: reads and writes the files
-/// in `store`, prints what came of it to `output`, and why it was refused or failed to `errors`.
+/// Does what the words ask for. The first is the program's name. It reads and writes the files in
+/// `store`, prints what came of it to `output`, and why it was refused or failed to `errors`.
 /// `mon` alone reads from the input. It answers how the program ends.
 ///
 /// Where `clap` refuses the words, the status is `Usage`, and for help or the version `Done` (or `File`, where standard

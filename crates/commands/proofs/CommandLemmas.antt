@@ -44,7 +44,7 @@ use Rattle.commands.specs.declared.trial.Trial.{Trial}
 
 -- ---- how a subcommand ends
 
--- an ending with what was done, and with what more is told of it, is one of a subcommand that does so, or stops so
+-- an ending with what was done, and its explanation, is one of a subcommand that does or stops so
 pub ends_as : {explains : Bool} {old new : Stream} {s : Status} {does : Did → Type 0} {stops : Halt → Type 0}
     (came : Result Did Halt) → s ≡ status_after (plain came) → Tells explains came old new
     → MatchResult came does stops → Ends explains does stops old new s
@@ -83,13 +83,13 @@ did_so (Err why) s same is ended =
     let done : is_done s ≡ true = elim ended [ inl at ↦ ap is_done at | inr at ↦ ap is_done at ] in
     absurd (let both : true ≡ false = sym done ∙ (ap is_done same ∙ undone (stop_of why)) in cc)
 
--- what was written is told, or cut
+-- the text was written in full, or cut
 pub told_on : {E : Type 0} (r : Result (Unit {0}) E) (old new : Option (List ℕ)) (before now : ℕ) (text : List ℕ) → Told r old new before now text
     → IsTold (stream old before) (stream new now) text
 told_on (Ok done) old new before now text is = inl is
 told_on (Err e) old new before now text is = inr is
 
--- what more is told, where there is a text of it
+-- the explanation, where there is a text of it
 pub more_is : {T : Type 0} (view : T → List ℕ) (explains : Bool) (came : Result Did Halt) (text : Option T) → IfSome text (λ t. view t ≡ more_if explains came)
     → IsMore explains came (unwrap_or (option_map view text) [])
 more_is view explains came (Some text) is = inl is
@@ -102,7 +102,7 @@ pub handed_on : {A : Type 0} (does : A → Type 0) (stops : Halt → Type 0) (r 
 handed_on does stops (Ok a) why is it = absurd is
 handed_on does stops (Err told) why is it = subst stops (sym is) it
 
--- the same, of which the reason alone is told
+-- the same for the reason alone
 pub handed_plain : {A : Type 0} (does : A → Type 0) (stops : Stop → Type 0) (r : Result A Halt) (why : Halt)
     → IsErrAnd r (λ told. told ≡ why) → stops (stop_of why) → MatchResult (bare r) does stops
 handed_plain does stops (Ok a) why is it = absurd is
@@ -125,7 +125,7 @@ made_whole job file image bytes spells made = ap (λ (r : Result ImageView Stop)
 
 -- ---- what is read
 
--- a text of which the parser gives no table
+-- a text from which the parser gets no table
 pub no_table : (bytes text : List ℕ) (error : JobError) → text ≡ bytes → IsUtf8 bytes → IsTableFault text error → IsNoTable bytes (stop_of_job error)
 no_table bytes text job_error.NotToml same utf8 is = inr (subst (λ (t : List ℕ). parse_document t ≡ None) same is)
 no_table bytes text job_error.BadKey same utf8 is = absurd is

@@ -1,4 +1,4 @@
--- What more is told of why a subcommand stops.
+-- The explanation of why a subcommand stops.
 use Rattle.std.proofs.Common.{◌≡◌, ◌∙◌, ℕ, List, Option, Some, None, IfNone, IfSome, Result, Ok, Err, IfOk, MatchResult, ap, refl, subst, sym}
 use Rattle.std.specs.Global.{Box, Global}
 use Rattle.std.specs.Result.{result_ok}
@@ -40,7 +40,7 @@ memory (halt.Open refusal) is = cc
 memory halt.Memory is = refl
 memory halt.Output is = cc
 
--- and nothing more is told of it
+-- and it has no explanation
 pub memory_opened : (params : List Param) (args : List Argument) (bound max : ℕ) (why : Halt) → stop_of why ≡ stop.Memory
     → ExplainsOpened params args bound max why
 memory_opened params args bound max why is = subst (ExplainsOpened params args bound max) (sym (memory why is)) tt
@@ -78,7 +78,7 @@ check_kept image certificate vlen error told at (Err none) answer (Some k) is as
 same_error : {A : Type 0} (a b : ElfRefusal) → ◌≡◌ {A = Result A ElfRefusal} (Err a) (Err b) → a ≡ b
 same_error a b e = cc
 
--- what is told of a refusal explains why the file is no image
+-- the answer to a refusal explains why the file is no image
 image_told : (file : List ℕ) (error : ElfError) (why : Halt) → TellsImage (refusal_of file error) why → ExplainsImage file why
 image_told file error (halt.Image why) told =
     subst (λ (e : ElfError). IfSome why.reason (λ kept. kept.value.0 ≡ evidence_of file e)) (sym told.0) told.1
@@ -113,7 +113,7 @@ loop_told params image pc (halt.Open refusal) told = tt
 loop_told params image pc halt.Memory told = tt
 loop_told params image pc halt.Output told = tt
 
--- what is told of why a file was not read explains why it is no image
+-- the answer for a file that was not read explains why it is no image
 pub image_explained : (A : Type 0) (fault : Option ElfError) (file : List ℕ) (refusal : ElfRefusal) (why : Halt)
     → IfSome fault (λ e. ◌≡◌ {A = Result A ElfRefusal} (Err refusal) (Err (refusal_of file e)))
     → IfNone fault (refusal ≡ refusal_of file elf_error.NoMemory) → TellsImage refusal why → ExplainsImage file why

@@ -1,4 +1,4 @@
--- What a subcommand did, and what more is told of it.
+-- What a subcommand did, and its explanation.
 use Rattle.std.specs.Prelude.{List, ℕ, [], Option, Some, None}
 use Rattle.explanations.specs.Refusal.{told}
 use Rattle.region_mem.specs.Faults.{fault_text}
@@ -29,7 +29,7 @@ status_with did.Done = status.Done
 status_with did.Stopped = status.Stopped
 status_with (did.StoppedAt fault stand) = status.Stopped
 
--- what more is told of it: the fault that a run met, if it did, and where it stands
+-- its explanation: the fault that a run met, if it did, and where it stands
 abbrev pub did_text : Did → List ℕ
 did_text did.Done = []
 did_text did.Stopped = []

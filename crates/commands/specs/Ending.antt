@@ -97,28 +97,28 @@ abbrev pub status_after : Result Status Stop → Status
 status_after (Ok s) = s
 status_after (Err reason) = status_of reason
 
--- what is told of it on standard error
+-- what is printed of it on standard error
 abbrev pub text_after : Result Status Stop → List ℕ
 text_after (Ok s) = []
 text_after (Err reason) = stop_text reason
 
--- what was done, or the reason to stop, without what more is told of it
+-- what was done, or the reason to stop, without the explanation
 abbrev pub plain : Result Did Halt → Result Status Stop
 plain (Ok did) = Ok (status_with did)
 plain (Err why) = Err (stop_of why)
 
--- what more is told of it, where it is to explain
+-- the explanation, where it is to explain
 abbrev pub more_if : Bool → Result Did Halt → List ℕ
 more_if false came = []
 more_if true (Ok did) = did_text did
 more_if true (Err why) = halt_text why
 
--- this is told of it, or nothing where memory ran out
+-- this is the explanation, or nothing where memory ran out
 abbrev pub IsMore : Bool → Result Did Halt → List ℕ → Type 0
 IsMore explains came more = (more ≡ more_if explains came) ⊎ (more ≡ [])
 
--- on standard error the reason's line is told, and behind it, where it is to explain, exactly what
--- more is told of that reason
+-- standard error has the reason's line and, behind it, exactly the explanation of that reason where
+-- it is to explain
 abbrev pub Tells : Bool → Result Did Halt → Stream → Stream → Type 0
 Tells explains came old new = (more : List ℕ) × IsMore explains came more
     × IsTold old new (text_after (plain came) ++ more)
@@ -127,7 +127,7 @@ Tells explains came old new = (more : List ℕ) × IsMore explains came more
 abbrev pub PassesOn : Status → Option (List ℕ) → Option (List ℕ) → Type 0
 PassesOn s passed taken = (s ≡ status.Done) ⊎ (s ≡ status.Stopped) → IsPassedOn passed taken
 
--- a subcommand does what it does, or stops for one of its reasons, with what more is told of that:
+-- a subcommand does what it does, or stops for one of its reasons, with the explanation of that:
 -- the status says which, and standard error tells why. `old` and `new` are what that has before and
 -- after
 pub record Ends (explains : Bool) (does : Did → Type 0) (stops : Halt → Type 0)

@@ -72,7 +72,7 @@ image_in file = unless_fault (fault_of file) (image_of file)
 abbrev pub IsImageAt : Files → Text → ImageView → Type 0
 IsImageAt files path image = (bytes : List ℕ) × files.holds path bytes × (image_in bytes ≡ Ok image)
 
--- the image that the first bytes of a file spell: at most so many of them, or all
+-- the image that the first bytes of a file spell: at most `most` of them, or all
 pub record IsImageOfFirst (known : Option Known) (path : Text) (most : ℕ) (image : ImageView)
     : Type 0 where
   pub bytes : List ℕ

@@ -1,4 +1,4 @@
--- Why a subcommand stops, and what more is told of it.
+-- Why a subcommand stops, and the explanation of that.
 use Rattle.std.specs.Prelude.{codes, ℕ, List, [], Some, None, Result, Ok, Err, string_bytes}
 use Rattle.block_checker.specs.Refusals as check_words
 use Rattle.cert_maker.specs.Make as make_words
@@ -31,7 +31,7 @@ error_of job_reason.Broken = job_error.BadKey
 error_of (job_reason.Missing table key command) = job_error.BadKey
 error_of (job_reason.Breach breach) = job_error.BadKey
 
--- without what more is told of it
+-- without the explanation
 abbrev pub stop_of : Halt → Stop
 stop_of (halt.Job reason) = stop.Job (error_of reason.value)
 stop_of (halt.UntoldJob error) = stop.Job error
@@ -47,12 +47,12 @@ stop_of (halt.Open told) = stop.Open told.error
 stop_of halt.Memory = stop.Memory
 stop_of halt.Output = stop.Output
 
--- an answer, of which the reason to stop stands alone
+-- an answer, where the reason to stop stands alone
 abbrev pub bare : {A : Type 0} → Result A Halt → Result A Stop
 bare (Ok a) = Ok a
 bare (Err why) = Err (stop_of why)
 
--- ---- what more is told
+-- ---- the explanation
 
 -- of the very reason to stop: nothing where memory ran out, or standard output took no text
 abbrev pub halt_text : Halt → List ℕ

@@ -84,7 +84,7 @@ bytes_of answer = result_map_both (λ bytes. bytes.items) stop_of answer
 abbrev pub AnswersBytes : Result (List ℕ) Stop → Result (Vec ℕ) Halt → Type 0
 AnswersBytes defined answer = IsOrWant defined (bytes_of answer)
 
--- ---- what more is told
+-- ---- the explanation
 
 -- why no certificate is made of an image for a job, or attached to its file
 abbrev pub ExplainsMaking : MakeJob → List ℕ → ImageView → Halt → Type 0

@@ -23,8 +23,8 @@ use Rattle.commands.specs.declared.stop.Stop.TheVariants as stop
 
 -- ---- a job's run, stopped
 
--- a run of an accepted image is opened, the lines of the input, of which no read failed, are
--- answered on it, and these are the arguments as they stand where it is left, at a stop of it
+-- a run of an accepted image is opened. The lines of the input are answered on it, and no read
+-- failed. These are the arguments as they stand where the run is left, at a stop of it
 pub record IsStopped (vlenb : ℕ) (agnostic : Agnostic) (max : ℕ) (a : AcceptedView)
     (args : List Argument) (e : Exchange) (kept : List Argument) : Type 0 where
   pub opens : open_fault vlenb a args max ≡ None
@@ -63,7 +63,7 @@ IsOfInput (stop.File at) = at.now ≡ codes "-"
 IsOfInput other = ⊥
 
 -- why a line is not answered, behind the bytes that were read: one of those in them is not, or the
--- last one at the end of the input, or the input is not read on, in at most so many reads, and what
+-- last one at the end of the input, or the input is not read on, in at most `most` reads, and what
 -- was printed are the answers so far
 abbrev pub IsUnansweredBehind : ℕ → ℕ → Exchange → Watch → Stop → List ℕ → Type 0
 IsUnansweredBehind most vlenb e old reason bytes = IsBroken vlenb bytes e.had e.has old reason
@@ -111,7 +111,7 @@ StopsWatched most files e wrote job accepted args =
 abbrev pub BeforeAll : Exchange → (Written → Type 0) → Written → Type 0
 BeforeAll e wrote files = wrote files × IsQuiet e
 
--- `mon` on a job's text and table, with at most so many reads of its input: it is not started, or
+-- `mon` on a job's text and table, with at most `most` reads of its input: it is not started, or
 -- afterwards
 abbrev pub StopsMon : ℕ → Files → Exchange → (Written → Type 0) → List ℕ → Members → Halt
     → Type 0

@@ -1,4 +1,4 @@
--- How an error is told with its reason, where there is one.
+-- The lines of an error with its reason, where there is one.
 use Rattle.std.specs.Prelude.{ℕ, List, [], Option, Some, None}
 use Rattle.explanations.specs.Refusal.{refusal_text, told}
 

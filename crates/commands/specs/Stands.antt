@@ -1,4 +1,4 @@
--- Where a run stopped, and what more is told of why.
+-- Where a run stopped, and what explains why.
 use Rattle.std.specs.Prelude.{◌++◌, codes, ℕ, List, [], Option, Some, None, option_map, string_bytes}
 use Rattle.std.specs.Fmt.{decimal}
 use Rattle.check_reasons.specs.Illegal.{illegal_in, illegal_text}
@@ -38,7 +38,7 @@ place_line image pc = line_at pc (option_map (λ word. listing_text pc word) (co
 
 -- ---- why it stopped
 
--- the vector length as it stood, and what is told of an instruction that is not legal
+-- the vector length as it stood, and what explains that an instruction is not legal
 abbrev pub operands_text : ℕ → List ℕ → List ℕ
 operands_text vl lines = codes "  vl: " ++ (decimal vl ++ (codes "\n" ++ lines))
 
@@ -50,7 +50,8 @@ cause_text cause.Untold = []
 cause_text (cause.Illegal vl illegal) = operands_text vl (illegal_text illegal)
 cause_text (cause.Behind place) = before_text (place_text place)
 
--- what is told of an instruction that is not legal in these registers: nothing of a word that is none
+-- what explains that an instruction is not legal in these registers. There is nothing for a word
+-- that is none
 abbrev pub illegal_lines : Registers → Option Insn → List ℕ
 illegal_lines registers None = []
 illegal_lines registers (Some insn) =
@@ -61,7 +62,7 @@ abbrev pub before_lines : ImageView → Option ℕ → List ℕ
 before_lines image None = []
 before_lines image (Some pc) = before_text (place_line image pc)
 
--- what more is told of how a run ended in these registers
+-- what explains how a run ended in these registers
 abbrev pub cause_lines : ImageView → Option ℕ → Registers → End → List ℕ
 cause_lines image last registers (end.Trapped (Illegal word)) =
     illegal_lines registers (meaning_of word)

@@ -1,4 +1,4 @@
--- Why a subcommand stops, step by step, and what more is told of it. `wrote xs` says that the files
+-- Why a subcommand stops, step by step, and the explanation of that. `wrote xs` says that the files
 -- `xs` were written.
 use Rattle.std.specs.Prelude.{◌≡◌, ◌⊎◌, [], Option, Some, None, Result, Ok, Err}
 use Rattle.job_file.specs.declared.values.JobError.TheVariants.{BadKey}
@@ -14,7 +14,7 @@ StopsAt {A} wrote fails comes later why = (fails why × wrote [])
     ⊎ ((a : A) × comes a × later a why)
 
 -- the same of a step that answers what is defined, or, after a first part of it, want of memory:
--- `explains` says what more is told of it
+-- `explains` says what the explanation is
 abbrev pub StopsAtResult : {A B : Type 0} → (Written → Type 0) → Result A Stop → Result B Stop
     → (Halt → Type 0) → (B → Halt → Type 0) → Halt → Type 0
 StopsAtResult wrote first defined explains =

@@ -1,4 +1,4 @@
--- How a reason to stop is told.
+-- The words for a reason to stop.
 use Rattle.std.specs.Prelude.{ℕ, List, [], ◌++◌, codes}
 use Rattle.block_checker.specs.Refusals.{address_of, at_address, name_of}
 use Rattle.cert_maker.specs.Make as maker
@@ -71,7 +71,7 @@ open_error_name open_error.NoMemory = codes "NoMemory"
 
 -- ---- the lines
 
--- how a refusal of the check or of the maker is told: the error's name, and its address
+-- the words for a refusal of the check or of the maker: the error's name, and its address
 -- where it has one
 abbrev pub reason_text : CheckError → List ℕ
 reason_text error = at_address (name_of error) (address_of error)
@@ -82,7 +82,7 @@ misfit_text error = at_address (maker.name_of error) (maker.address_of error)
 abbrev pub refused_line : List ℕ → List ℕ
 refused_line name = codes "refused: " ++ (name ++ codes "\n")
 
--- the line that tells a reason to stop; nothing is told where standard output took no text
+-- the line that tells a reason to stop. It is empty where standard output took no text
 abbrev pub stop_text : Stop → List ℕ
 stop_text (stop.Job error) = codes "job: " ++ (job_error_name error ++ codes "\n")
 stop_text (stop.File path) = codes "file: " ++ (escaped_text path.now ++ codes "\n")

@@ -1,4 +1,4 @@
--- What comes of a run, and how it is told.
+-- What comes of a run, and the words for it.
 use Rattle.std.specs.Prelude.{◌≡◌, ◌++◌, [], codes, Bool, true, false, ℕ, List, Result, Ok, Err}
 use Rattle.std.specs.Fmt.{decimal}
 use Rattle.job_file.specs.declared.values.RunParam.{RunParam}
@@ -41,7 +41,7 @@ trial_at (stopped.OutOfSteps last) = trial_in end.OutOfSteps last
 abbrev pub trial_from : ℕ → ℕ → Machine → Trial
 trial_from vlenb max m = trial_at (answer_of vlenb (outcome vlenb max m))
 
--- ---- how it is told
+-- ---- the words for it
 
 abbrev pub end_line : End → ℕ → List ℕ
 end_line end.Ended steps = codes "ended: " ++ (decimal steps ++ codes " steps\n")
@@ -62,14 +62,14 @@ abbrev pub shown_of : Bool → Trial → List ℕ
 shown_of false trial = []
 shown_of true trial = state_text trial.registers trial.vlenb
 
--- what is told of a run: its line, and the registers behind it where they are asked for
+-- what is printed of a run: its line, and the registers behind it where they are asked for
 abbrev pub told_of : Bool → Trial → List ℕ
 told_of asked trial = line_of trial ++ shown_of asked trial
 
 -- ---- why it stops
 
--- where this is what is defined of a run: it does not start, and `explains` says what more is told
--- of it, or its outcome is not written or told
+-- where this is what is defined of a run: it does not start, and `explains` says what the
+-- explanation is, or its outcome is not written or told
 abbrev pub StopsAtTrial : Files → Change → Bool → List (RunParam Text) → Result Trial Stop
     → (Halt → Type 0) → Halt → Type 0
 StopsAtTrial files c asked params defined explains =

@@ -81,7 +81,7 @@ abbrev pub begins : TryJob Text → ImageView → List Argument → Machine
 begins job image args =
     start (vlenb_of job.vlen) job.agnostic image (params_for job.params args) args
 
--- pc of the state before the last of so many steps of it, if there was one
+-- pc of the state before the last of this number of steps of it, if there was one
 abbrev pub last_of : TryJob Text → ImageView → List Argument → ℕ → Option ℕ
 last_of job image args = last_pc (vlenb_of job.vlen) (begins job image args)
 
@@ -100,8 +100,8 @@ passed_by (taken.Buffer mode file out) = given.Buffer file out
 -- ---- what is done: `c` is what is left
 
 -- `try` on a job's table: what comes of the job on its image is printed, with the registers or
--- without, and the out files of all places were written with the buffers as the run left them; what
--- more is told is how the run ended, where it stands and why, or nothing
+-- without, and the out files of all places were written with the buffers as the run left them. The
+-- explanation is how the run ended, where it stands and why, or nothing
 pub record Tries (files : Files) (registers : Bool) (table : Members) (c : Change) (d : Did)
     : Type 0 where
   pub job : TryJob Text

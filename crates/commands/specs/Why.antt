@@ -1,5 +1,5 @@
--- What more is told of why a subcommand stops, step by step: the very reason of the error. Where
--- memory did not suffice to keep the reason, nothing is.
+-- The explanation of why a subcommand stops, step by step: the very reason of the error. There is
+-- none where memory did not suffice to keep the reason.
 use Rattle.std.specs.Prelude.{◌≡◌, ℕ, List, Option, Some, IfSome, Result, Ok, Err, unwrap_or}
 use Rattle.std.specs.Global.{Global}
 use Rattle.block_checker.specs.Explained.{Explains}
@@ -61,8 +61,8 @@ ExplainsCertificate (Some bytes) (halt.Certificate why) =
     IfSome why.reason (λ kept. IsReason bytes why.error kept.value)
 ExplainsCertificate bytes other = Unit {0}
 
--- what is told of a check that is refused with an error: where it stopped, the word there, and what
--- was wanted
+-- the explanation of a check that is refused with an error: where it stopped, the word there, and
+-- what was wanted
 pub record IsCheckReason (image : ImageView) (certificate : CertificateView) (vlen : Vlen)
     (error : CheckError) (told : CheckReason Global) : Type 0 where
   pub fault : told.explanation.error ≡ error
@@ -110,7 +110,7 @@ ExplainsLoop params image (halt.Make why) =
 ExplainsLoop params image (halt.Job reason) = ⊥
 ExplainsLoop params image other = Unit {0}
 
--- why a file, whose image has this certificate, takes none of so many bytes
+-- why a file, whose image has this certificate, takes none of `size` bytes
 abbrev pub ExplainsAttached : List ℕ → Option (List ℕ) → ℕ → Halt → Type 0
 ExplainsAttached file there size (halt.Attach why) =
     IfSome why.reason (λ kept. kept.value ≡ attach_reason file there size why.error)
@@ -119,8 +119,8 @@ ExplainsAttached file there size other = Unit {0}
 
 -- ---- a run
 
--- why no run of these arguments is opened: of parameters that there can't be, the first such is
--- told
+-- why no run of these arguments is opened: the reason has the first of the parameters that there
+-- can't be, if there are such
 abbrev pub ExplainsOpened : List Param → List Argument → ℕ → ℕ → Halt → Type 0
 ExplainsOpened params args bound max (halt.Open refusal) =
     refusal.reason ≡ reason_of params args bound max refusal.error

@@ -20,8 +20,8 @@ use std::alloc::Global;
 /// `check`: checks the image at `path` against its certificate, at the certificate's length of vector registers, and prints
 /// the bound that the certificate states.
 ///
-/// In this order, up to the first that is refused or fails, which is told: the image file, the image, the certificate, the
-/// check, the printed line. Where it is to `explain`, more of why it stops is told behind the reason's line.
+/// In this order, up to the first that is refused or fails, which is reported: the image file, the image, the certificate, the
+/// check, the printed line. Where it is to `explain`, the explanation is printed behind the reason's line.
 pub fn check_image<S: Store, O: Stream, E: Sink>(
     alloc: Global,
     path: &str,

@@ -1,4 +1,4 @@
-//! What a subcommand did, and what more is told of it: where a run stopped.
+//! What a subcommand did, and its explanation: where a run stopped.
 ghost use Rattle.std.specs.Prelude.{◌≡◌};
 ghost use Rattle.commands.specs.Did.{status_with, stopped_at};
 
@@ -7,7 +7,7 @@ use crate::stop::Status;
 use region_mem::Fault;
 use std::fmt;
 
-/// What a subcommand did. It shows what more is told of that.
+/// What a subcommand did. It shows the explanation of that.
 #[derive(Drop)]
 pub enum Did {
     /// All was done.

@@ -38,7 +38,7 @@ pub fn needs_in_numbers()
     ensures image { MOST_OF_IMAGE ≡ 0x40_0001 }
 {}
 
-/// The file at `path`, of which the first `most` bytes are needed.
+/// The file at `path`. Its first `most` bytes are needed.
 fn read<'a, S: Store>(
     alloc: Global,
     path: &'a str,
@@ -101,7 +101,7 @@ fn table_in(alloc: Global, bytes: &[u8]) -> Result<Table, JobError>
     }
 }
 
-/// Whether what is told of the beginning of a file that is too large for an image may lie in the rest.
+/// Whether the fault that the beginning of a file shows may lie in the rest, where the file is too large for an image.
 fn lacks_rest(alloc: Global, file: &[u8]) -> bool
     ensures { result ≡ true → length file.now ≡ MOST_OF_IMAGE }
 {

@@ -1,4 +1,4 @@
-//! Why a subcommand stops, and what more is told of it: the error in a sentence, and the lines of its reason.
+//! Why a subcommand stops, and the explanation of that: the error in a sentence, and the lines of its reason.
 ghost use Rattle.std.specs.Prelude.{◌≡◌};
 ghost use Rattle.commands.specs.Halt.{error_of, stop_of};
 ghost use Rattle.commands.specs.declared.halt.Halt.TheVariants.{Memory};
@@ -19,8 +19,8 @@ use sandbox_run::OpenError;
 use std::alloc::AllocError;
 use std::fmt;
 
-/// Why a subcommand stops, and what more is told of it. It shows the latter, which is nothing where that takes memory that ran
-/// out.
+/// Why a subcommand stops, and the explanation of that. It shows the explanation, which is nothing where it takes memory that
+/// ran out.
 #[derive(Drop)]
 pub enum Halt<'a> {
     /// A job is refused for this reason.

@@ -6,8 +6,8 @@
 //!   certificate.
 //! - `lines` has the input of `mon`, `trial` what comes of a run, `registers` those that it left, `stands`
 //!   where it stopped, `did` what was done.
-//! - `stop` has statuses and reasons to stop. `texts` and `escapes` have how those are told, `halt` what more is told of
-//!   them, `why` of what they are.
+//! - `stop` has statuses and reasons to stop. `texts` and `escapes` have the words for those, `halt` has their
+//!   explanations, and `why` makes them from what a subcommand stops at.
 //! - `memory` has the subcommands over files in memory. Where files are stands in `file_store`.
 #![tactic(auto)]
 

@@ -36,7 +36,7 @@ fn error_line<'a>(alloc: Global, error: MonError) -> Result<Vec<u8>, Halt<'a>>
     }
 }
 
-/// Does what a line asks for: whether lines go on, and what is told of it.
+/// Does what a line asks for: whether lines go on, and the answer to it.
 fn carried<'a, const VLENB: usize>(
     alloc: Global,
     monitor: &mut Monitor<'_, VLENB>,
@@ -61,7 +61,7 @@ fn carried<'a, const VLENB: usize>(
     }
 }
 
-/// What a line comes to, which is no command where it is not UTF-8: whether lines go on, and what is told of it.
+/// What a line comes to, which is no command where it is not UTF-8: whether lines go on, and the answer to it.
 fn answered<'a, const VLENB: usize>(
     alloc: Global,
     monitor: &mut Monitor<'_, VLENB>,
@@ -144,7 +144,7 @@ fn answer_byte<'a, const VLENB: usize, O: Stream>(
     Ok(flow)
 }
 
-/// Answers each line that ends in these bytes, of which `line` holds the beginning of the first, and then that of the next.
+/// Answers each line that ends in these bytes. `line` holds the beginning of the first line, and then that of the next.
 fn answer_bytes<'a, const VLENB: usize, O: Stream>(
     alloc: Global,
     monitor: &mut Monitor<'_, VLENB>,
@@ -186,7 +186,7 @@ fn unread<'a>(alloc: Global, error: io::Error) -> Halt<'a>
 }
 
 /// Answers the lines of the input, up to the command `q` or the end, in at most `reads` reads. The last line needs no end.
-/// Where the input fails, what the system says of it is told. Of too many reads it says nothing.
+/// Where the input fails, the reason has what the system says of it. Of too many reads it says nothing.
 pub fn answer_lines<'a, const VLENB: usize, I: Source, O: Stream>(
     alloc: Global,
     monitor: &mut Monitor<'_, VLENB>,

@@ -53,11 +53,11 @@ pub struct MakePaths<'a> {
 /// vector registers of a job, writes the image with it, and prints the bound that it states. An
 /// image that the job names is not read.
 ///
-/// In this order, up to the first that is refused or fails, which is told: the job file, the job,
-/// the image file, the image, the parameters, the certificate, the file with it, that file read
-/// back, its certificate, the check, the file that is written, the printed line.
+/// In this order, up to the first that is refused or fails, which is reported: the job file, the
+/// job, the image file, the image, the parameters, the certificate, the file with it, that file
+/// read back, its certificate, the check, the file that is written, the printed line.
 ///
-/// Where it is to `explain`, more of why it stops is told behind the reason's line.
+/// Where it is to `explain`, the explanation is printed behind the reason's line.
 pub fn make_image<'a, S: Store, O: Stream, E: Sink>(
     alloc: Global,
     paths: MakePaths<'a>,

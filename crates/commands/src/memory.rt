@@ -28,8 +28,8 @@ use file_store::{Memory, Source};
 use rv_listing::Over;
 use std::alloc::Global;
 
-/// `check` over files in memory: what it prints is of the file at `path`, no file changes, and why it stops is told, in full
-/// where it is to `explain`.
+/// `check` over files in memory. What it prints is of the file at `path`, and no file changes. Why it stops is printed, with the
+/// explanation where it is to `explain`.
 pub fn check_memory(
     alloc: Global,
     path: &str,

@@ -35,11 +35,11 @@ use vreg_groups::Vlen;
 /// run if it is accepted, answers each line of the input on standard output, up to the command `q` or the end of the input,
 /// and writes the job's out files.
 ///
-/// In this order, up to the first that is refused or fails, which is told: the job file, the job, the image file, the
+/// In this order, up to the first that is refused or fails, which is reported: the job file, the job, the image file, the
 /// image, the certificate, the check, the parameters' files by place, the start of the run, the lines and their answers,
 /// the out files by place.
 ///
-/// Where it is to `explain`, more of why it stops is told behind the reason's line.
+/// Where it is to `explain`, the explanation is printed behind the reason's line.
 pub fn mon_job<S: Store, I: Source, O: Stream, E: Sink>(
     alloc: Global,
     path: &str,

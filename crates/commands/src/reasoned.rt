@@ -1,11 +1,12 @@
-//! An error, and the reason that is told of it, where memory suffices.
+//! An error, and the reason for it, where memory suffices.
 ghost use Rattle.std.specs.Prelude.{◌≡◌, IfSome, Some};
 
 use std::alloc::Global;
 use std::fmt;
 
-/// An error, and the reason that is told of it, where memory sufficed for that: it stands on the heap, so that an answer with it is
-/// small. It shows the error's text on a line of its own, and then the reason's lines, or nothing where there is no reason.
+/// An error, and the reason for it, where memory sufficed for that. The reason stands on the heap, so that an answer with it is
+/// small. A `Reasoned` shows the error's text on a line of its own, and then the reason's lines, or nothing where there is no
+/// reason.
 #[derive(Drop)]
 pub struct Reasoned<E, R> {
     pub error: E,

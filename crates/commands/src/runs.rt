@@ -31,11 +31,11 @@ use vreg_groups::Vlen;
 /// `run`: checks the image of the job at `path` against its certificate, at the job's length of vector registers, runs it if
 /// it is accepted, writes the job's out files and prints how many steps the run took.
 ///
-/// In this order, up to the first that is refused or fails, which is told: the job file, the job, the image file, the
+/// In this order, up to the first that is refused or fails, which is reported: the job file, the job, the image file, the
 /// image, the certificate, the check, the parameters' files by place, the start of the run, the run, the out files by
 /// place, the printed line.
 ///
-/// Where it is to `explain`, more of why it stops is told behind the reason's line. Where `registers` are asked for, those that
+/// Where it is to `explain`, the explanation is printed behind the reason's line. Where `registers` are asked for, those that
 /// the run left are printed behind its line, as `mon` shows them.
 pub fn run_job<S: Store, O: Stream, E: Sink>(
     alloc: Global,

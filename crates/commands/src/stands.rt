@@ -1,4 +1,4 @@
-//! Where a run stopped, and what more is told of why.
+//! Where a run stopped, and what explains why.
 ghost use Rattle.std.specs.Prelude.{◌≡◌, IfSome, string_bytes};
 ghost use Rattle.rv_decode.specs.Decode.{meaning_of};
 ghost use Rattle.rv_listing.specs.Listing.{listing_text};
@@ -80,7 +80,7 @@ fn place_at(alloc: Global, image: &Image, pc: u32) -> Option<Place>
     }
 }
 
-/// What more is told of a fault that a run met.
+/// What explains a fault that a run met.
 #[derive(Drop)]
 pub enum Cause {
     /// Nothing.
@@ -106,7 +106,7 @@ impl fmt::Display for Cause {
     }
 }
 
-/// What is told of a word that is not legal where these registers are: nothing of one that encodes no instruction.
+/// What explains that a word is not legal where these registers are: nothing for one that encodes no instruction.
 fn illegal_at(registers: &Registers, word: u32) -> Cause
     ensures { cause_text result ≡ illegal_lines registers.now (meaning_of word) }
 {
@@ -130,7 +130,7 @@ fn behind(alloc: Global, image: &Image, last: Option<u32>) -> Option<Cause>
     Some(Cause::Behind(place))
 }
 
-/// What more is told of how a run of an image ended, in these registers, where memory suffices. Its last step was done at `last`.
+/// What explains how a run of an image ended, in these registers, where memory suffices. Its last step was done at `last`.
 fn cause_of(
     alloc: Global,
     image: &Image,
@@ -150,7 +150,7 @@ fn cause_of(
     }
 }
 
-/// Where a run stopped, and what more is told of why.
+/// Where a run stopped, and what explains why.
 #[derive(Drop)]
 pub struct Stand {
     pub place: Place,

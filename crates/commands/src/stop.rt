@@ -73,7 +73,7 @@ pub enum Stop<'a> {
     Open(OpenError),
     /// Memory ran out.
     Memory,
-    /// Standard output took no text. Nothing more is told.
+    /// Standard output took no text. Nothing more is printed.
     Output,
 }
 
@@ -106,8 +106,8 @@ impl Stop<'_> {
     }
 }
 
-/// How a subcommand ends after what it did, or after the reason to stop: that reason is told, and then, where it is to `explain`,
-/// and memory suffices, what more is told of it.
+/// How a subcommand ends after what it did, or after the reason to stop. That reason is printed. The explanation follows where
+/// it is to `explain` and memory suffices.
 pub fn ended<E: Sink>(
     alloc: Global,
     done: Result<Did, Halt<'_>>,
@@ -134,7 +134,7 @@ fn status_after(done: &Result<Did, Halt<'_>>) -> Status
     }
 }
 
-/// What more is told, where it is to explain, and memory suffices.
+/// The explanation, where it is to explain and memory suffices.
 fn more_of(alloc: Global, done: &Result<Did, Halt<'_>>, explain: bool) -> Option<String>
     ensures { IfSome result (λ text. string_bytes text ≡ more_if explain done.now) }
 {

@@ -1,4 +1,4 @@
-//! How a reason to stop is told.
+//! The words for a reason to stop.
 ghost use Rattle.std.specs.Prelude.{◌≡◌, ◌++◌, Some, codes};
 ghost use Rattle.block_checker.specs.Refusals.{at_address};
 ghost use Rattle.job_reasons.specs.Escaped.{escaped_text};

@@ -1,4 +1,4 @@
-//! What comes of a run: how it ended, how that is told, and which status the program has then.
+//! What comes of a run: how it ended, the words for that, and which status the program has then.
 ghost use Rattle.std.specs.Prelude.{◌≡◌, ◌++◌, IfErr, IfOk, IfSome, None, OnOk, false, map};
 ghost use Rattle.job_file.specs.Needs.{run_param_lent};
 ghost use Rattle.rv_listing.specs.Sinks.{IsPassedOn, Told};
@@ -33,8 +33,8 @@ pub enum End {
     OutOfSteps,
 }
 
-/// What came of a run: how it ended, after how many steps, and the arguments and the registers as they then stood, of which
-/// a vector register has `vlenb` bytes.
+/// What came of a run: how it ended, after how many steps, and the arguments and the registers as they then stood.
+/// A vector register has `vlenb` bytes.
 #[derive(Drop)]
 pub struct Trial {
     end: End,

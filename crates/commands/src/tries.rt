@@ -39,10 +39,10 @@ use vreg_groups::Vlen;
 /// `try`: runs the image of the job at `path`, accepted or not, with every test at each step, writes the job's out files
 /// and prints how the run ended.
 ///
-/// In this order, up to the first that is refused or fails, which is told: the job file, the job, the image file, the
+/// In this order, up to the first that is refused or fails, which is reported: the job file, the job, the image file, the
 /// image, the parameters' files by place, the parameters, the run, the out files by place, the printed line.
 ///
-/// Where it is to `explain`, more of why it stops is told behind the reason's line. Where `registers` are asked for, those that
+/// Where it is to `explain`, the explanation is printed behind the reason's line. Where `registers` are asked for, those that
 /// the run left are printed behind its line, as `mon` shows them.
 pub fn try_job<S: Store, O: Stream, E: Sink>(
     alloc: Global,

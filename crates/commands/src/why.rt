@@ -1,4 +1,4 @@
-//! Why a subcommand stops, from what it stops at. Where memory ran out, nothing more is told.
+//! Why a subcommand stops, from what it stops at. Where memory ran out, there is no explanation.
 ghost use Rattle.std.specs.Prelude.{◌≡◌, IfSome, None, Some};
 ghost use Rattle.block_checker.specs.Bound.{scalar_of, scalars_of};
 ghost use Rattle.block_checker.specs.Explained.{IsStopped};
@@ -44,7 +44,7 @@ fn said(alloc: Global, says: Option<ErrorKind>) -> Option<String>
     line.ok()
 }
 
-/// The file at `path` was not read or written, of which the system says this.
+/// The file at `path` was not read or written. The system says this of it.
 pub fn stop_at<'a>(
     alloc: Global,
     error: StoreError,
@@ -72,7 +72,7 @@ pub fn bad_image<'a>(alloc: Global, refusal: ElfRefusal) -> Halt<'a>
     }
 }
 
-/// No certificate of so many bytes is attached to an image.
+/// No certificate of `size` bytes is attached to an image.
 pub fn not_attached<'a>(
     alloc: Global,
     file: &[u8],

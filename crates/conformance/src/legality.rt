@@ -32,7 +32,7 @@ fn is_legal(vtype: u32, word: u32) -> Option<bool> {
     Some(legal(&config, &insn))
 }
 
-/// What is told of a word that is not as legal as expected, or means nothing.
+/// The text for a word that is not as legal as expected, or means nothing.
 fn unlike_legal(
     alloc: Global,
     vtype: u32,

@@ -1,4 +1,4 @@
-//! The memory in which single steps are taken: a word of code, and two buffers, of which one may be written.
+//! The memory in which single steps are taken: a word of code, and two buffers. One of the buffers may be written.
 
 use crate::arguments::{Given, regions};
 use crate::fields::{RowError, bytes};

@@ -193,7 +193,7 @@ impl Case<'_> {
         }
     }
 
-    /// What is told where the row says another end than this one.
+    /// The text for a row that says another end than this one.
     pub(crate) fn other_end(&self, alloc: Global, end: &str) -> Result<Option<String>, RowError> {
         unlike(alloc, self.after, end)
     }

@@ -14,7 +14,7 @@ pub trait Table {
     fn difference(&mut self, alloc: Global, row: &str) -> Result<Option<String>, RowError>;
 }
 
-/// What is told of a row's answer: None where it is the expected one.
+/// The text for a row's answer: None where it is the expected one.
 pub(crate) fn unlike(
     alloc: Global,
     expected: &str,
@@ -31,7 +31,7 @@ fn is_row(line: &str) -> bool {
     !matches!(line.as_bytes().first(), None | Some(b'#'))
 }
 
-/// What is told of a row, None where it came out as expected.
+/// The text for a row, None where it came out as expected.
 fn told<T: Table>(alloc: Global, table: &mut T, row: &str) -> Result<Option<String>, AllocError> {
     match table.difference(alloc, row) {
         Ok(difference) => Ok(difference),

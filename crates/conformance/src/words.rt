@@ -27,7 +27,7 @@ impl Table for Words {
     }
 }
 
-/// What is told of a word whose listing is not the expected one.
+/// The text for a word whose listing is not the expected one.
 fn unlike(alloc: Global, word: u32, expected: &str, came: &str) -> Result<String, AllocError> {
     format!(in alloc; "{word:08x} should be {expected}, came {came}")
 }

@@ -1,4 +1,4 @@
--- Why bytes are no certificate: where reading stopped, and in which words it is told.
+-- Why bytes are no certificate: where reading stopped, and the words for it.
 use Rattle.std.specs.Prelude.{◌≡◌, ◌≢◌, ◌⊎◌, ℕ, ◌++◌, ◌-◌, List, [], ◌∷◌, length, take, drop, codes, Option, Some, None, Err}
 use Rattle.std.specs.Fmt.{decimal}
 use Rattle.cert_note.specs.Reading.{certificate_of, IsFaultBlock, IsFaultPlace}
@@ -21,7 +21,7 @@ IsUntold bytes e = ¬ (IsTold bytes e)
 abbrev pub IsOfBytes : CertError → Type 0
 IsOfBytes e = e ≢ error.NoMemory
 
--- so many bytes are read when the error is told
+-- the error is known once this number of bytes is read
 abbrev pub IsPlace : List ℕ → CertError → ℕ → Type 0
 IsPlace = IsFaultPlace
 
@@ -46,7 +46,7 @@ abbrev pub IfFound : (ℕ → Type 0) → Type 0 → Option ℕ → Type 0
 IfFound Found NotFound None = NotFound
 IfFound Found NotFound (Some n) = Found n
 
--- What is told of bytes that are no certificate: of want of memory nothing.
+-- A reason's place: where reading stopped, or none where the bytes do not tell this error.
 abbrev pub IsPlaced : List ℕ → CertError → CertificateReason → Type 0
 IsPlaced bytes e told = IfFound (IsPlace bytes e) (IsUntold bytes e) told.place
 

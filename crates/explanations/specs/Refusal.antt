@@ -1,4 +1,4 @@
--- How an error is told with its reason.
+-- The text of an error with its reason.
 use Rattle.std.specs.Prelude.{ℕ, ◌++◌, List, codes, Option, Some, None}
 
 -- the error's text on a line of its own, and behind it the reason's lines

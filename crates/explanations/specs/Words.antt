@@ -1,4 +1,4 @@
--- In which words a word at an address is told, and how it is listed.
+-- The line for a word at an address, and the line for its listing.
 use Rattle.std.specs.Prelude.{ℕ, ◌++◌, List, [], codes, Option, Some, None, String, string_bytes}
 use Rattle.explanations.specs.Address.{address_text}
 

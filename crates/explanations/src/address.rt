@@ -2,7 +2,7 @@
 use region_mem::Digits;
 use std::fmt;
 
-/// An address or a word, which is told as `0x` and eight digits of base 16. The end of an area may be 2^32.
+/// An address or a word. Its text is `0x` and eight digits of base 16. The end of an area may be 2^32.
 #[derive(Clone, Copy, PartialEq, Eq)]
 pub struct Address(pub u64);
 
@@ -17,7 +17,7 @@ impl fmt::Display for Address {
     }
 }
 
-/// A byte, which is told as two digits of base 16.
+/// A byte. Its text is two digits of base 16.
 #[derive(Clone, Copy, PartialEq, Eq)]
 pub struct Byte(pub u8);
 

@@ -1,7 +1,7 @@
 //! What is refused, in a sentence, and behind it the lines of its reason.
 use std::fmt;
 
-/// An error, and the reason that is told of it: the error's text on a line of its own, and then the reason's lines.
+/// An error and its reason. The text is the error's on a line of its own, and then the reason's lines.
 #[derive(Drop)]
 pub struct Refusal<E, R> {
     pub error: E,

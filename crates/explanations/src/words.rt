@@ -1,4 +1,4 @@
-//! A word at an address, as it is told and as it is listed.
+//! A word at an address: its line, and how it is listed.
 ghost use Rattle.std.specs.Prelude.{◌≡◌, IfOk, string_bytes};
 ghost use Rattle.std.specs.Str.Lossy.{utf8_lossy};
 ghost use Rattle.rv_listing.specs.Listing.{listing_text};

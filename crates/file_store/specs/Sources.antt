@@ -36,7 +36,7 @@ IsGivenUp most None after = Unit {0}
 IsGivenUp most (Some before) None = ⊥
 IsGivenUp most (Some before) (Some after) = IsUnread most before after
 
--- no more reads than so many, where it is known how many there were
+-- at most `most` more reads, where it is known how many there were
 abbrev pub IsWithin : ℕ → Option Input → Option Input → Type 0
 IsWithin most None after = Unit {0}
 IsWithin most (Some before) None = ⊥

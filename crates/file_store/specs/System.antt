@@ -12,7 +12,7 @@ IsOpened None path left = Unit {0}
 IsOpened (Some files) path left =
     (bytes : List ℕ) × (files path ≡ Some bytes) × (left ≡ Some bytes)
 
--- these are the first bytes of the file at a path, at most so many
+-- these are the first bytes of the file at a path, at most `most`
 abbrev pub IsFirst : Option Known → List ℕ → ℕ → List ℕ → Type 0
 IsFirst None path most first = Unit {0}
 IsFirst (Some files) path most first =

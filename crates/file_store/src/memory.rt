@@ -15,7 +15,7 @@ struct File {
     bytes: Vec<u8>,
 }
 
-/// Files in memory, of which the newest at a path is there, and the paths that can't be read or written.
+/// Files in memory, and the paths that can't be read or written. The newest file at a path is the one there.
 #[derive(Drop)]
 pub struct Memory {
     alloc: Global,

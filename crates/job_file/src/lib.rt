@@ -1,7 +1,7 @@
 //! Job files: the values of a TOML table, and what a subcommand takes of them.
 //!
-//! A text is parsed to a table (`parse`). The table's values are those of its keys, each of which may be missing (`job_in`);
-//! of a table that breaks a rule of job files, the key that does is told (`kept_job_in`).
+//! A text is parsed to a table (`parse`). The table's values are those of its keys, and each may be missing (`job_in`).
+//! For a table that breaks a rule of job files, the answer is the key that does (`kept_job_in`).
 //! A subcommand has a struct of what it needs, in which nothing is missing (`try_job_in`, `run_job_in`, `make_job_in`).
 #![tactic(auto)]
 

@@ -1,4 +1,4 @@
--- Why a job is refused, and in which words it is told.
+-- Why a job is refused, and the words for it.
 use Rattle.std.specs.Prelude.{◌≡◌, ◌<◌, ◌≤◌, ℕ, ◌+◌, ◌++◌, ◌==◌, nat_lt, nat_le, ◌||◌, if◌then◌else◌, Bool, true, false, List, [], codes, length, filter, fold, take, Option, Some, None, is_some, Err, String, string_bytes}
 use Rattle.std.specs.Fmt.{decimal}
 use Rattle.std.specs.Global.{Global}
@@ -72,7 +72,7 @@ job_lacks command.Mon j = or_else (lacked_of j.vlen key.Vlen) (start_lacks j)
 job_lacks command.Try j = or_else (lacked_of j.vlen key.Vlen) (start_lacks j)
 job_lacks command.Make j = lacked_of j.vlen key.Vlen
 
--- ---- what is told
+-- ---- the reasons
 
 abbrev pub is_taken : Command → Members → Bool
 is_taken command.Run ms = is_some (run_job_in ms)
@@ -95,7 +95,7 @@ IsLacked c table.Job k (Some j) = job_lacks c j ≡ Some k
 IsLacked c (table.Param place) k (Some j) = (place < 8) × (place_lacks c j.params place ≡ Some k)
     × (job_lacks c j ≡ None) × LackNone c j.params place
 
--- a job of which a command lacks no key
+-- there is a job, and a command lacks no key of it
 abbrev pub LacksNone : Command → Option (Job Text) → Type 0
 LacksNone c None = ⊥
 LacksNone c (Some j) = (job_lacks c j ≡ None) × LackNone c j.params 8
@@ -108,7 +108,7 @@ breach_kept (breach.NoTable t) = breach.NoTable t
 breach_kept (breach.NoKind t) = breach.NoKind t
 breach_kept breach.TooMany = breach.TooMany
 
--- what is told of a table: nothing exactly where the command takes it
+-- the reason for a table: none exactly where the command takes it
 abbrev pub IsTableReason : Command → Members → Option JobReason → Type 0
 IsTableReason c ms None = is_taken c ms ≡ true
 IsTableReason c ms (Some reason.Broken) = (is_taken c ms ≡ false) × LacksNone c (job_of ms)
@@ -139,12 +139,12 @@ next_column column byte =
 abbrev pub column_behind : List ℕ → ℕ
 column_behind bytes = fold next_column 1 bytes
 
--- a text has a table, of which this is true
+-- a text has a table, and this is true of it
 abbrev pub IfTable : (Members → Type 0) → Option Members → Type 0
 IfTable True None = ⊥
 IfTable True (Some ms) = True ms
 
--- What is told of a job's text: where it is no UTF-8, where it is no TOML, or what is told of its
+-- The reason for a job's text: where it is no UTF-8, where it is no TOML, or the reason for its
 -- table. The cause is free, since the library states nothing of its words.
 abbrev pub IsJobReason : Command → List ℕ → Option JobReason → Type 0
 IsJobReason c text (Some (reason.NotUtf8 byte)) =

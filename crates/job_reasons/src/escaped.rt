@@ -4,7 +4,7 @@ ghost use Rattle.job_reasons.specs.Escaped.{escaped_text};
 
 use std::fmt;
 
-/// A character, which is told by its code where it is a control character.
+/// A character. A control character is written as its code.
 #[derive(Clone, Copy)]
 struct Shown(char);
 

@@ -32,7 +32,7 @@ pub enum JobReason {
     /// The text is not UTF-8 from this byte on, counted from 0.
     NotUtf8(usize),
     /// The text is not TOML from this byte on, counted from 0, which stands in this line, at this character, both counted
-    /// from 1. The cause is told in the library's words, where there was memory to keep it.
+    /// from 1. The cause is in the library's words, where there was memory to keep it.
     NotToml {
         line: usize,
         column: usize,
@@ -122,7 +122,7 @@ fn param_lacks(command: Command, param: JobParam<&str>) -> Option<JobKey>
     }
 }
 
-/// The first parameter of which a command lacks a key, and that key.
+/// The first parameter without a key that a command needs, and that key.
 fn params_lack(command: Command, params: [JobParam<&str>; 8]) -> Option<(usize, JobKey)>
     ensures found { IfSome result (λ m. (m.0 < 8)
         × (place_lacks command (map param_lent params.entry) m.0 ≡ Some m.1)

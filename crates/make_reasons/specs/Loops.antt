@@ -1,4 +1,4 @@
--- Why no certificate is made of a loop for a job's parameters, and in which words it is told.
+-- Why no certificate is made of a loop for a job's parameters, and the words for it.
 use Rattle.std.specs.Prelude.{◌≡◌, ℕ, ◌+◌, ◌++◌, List, [], ◌∷◌, codes}
 use Rattle.std.specs.Fmt.{decimal}
 use Rattle.cert_maker.specs.declared.refusal.Misfit.{Misfit}
@@ -9,7 +9,7 @@ use Rattle.region_mem.specs.declared.parameter.Param.TheVariants as parameter
 use Rattle.make_reasons.specs.Make.{IsWordReason, make_text}
 use Rattle.make_reasons.specs.declared.loops.LoopReason.{LoopReason}
 
--- What is told of a loop: the word that does not fit, as it is told alone, and all parameters.
+-- The reason for a loop: the word that does not fit, with its own reason, and all parameters.
 pub record IsLoopReason (given : List Param) (misfit : Misfit) (told : LoopReason) : Type 0 where
   pub word : IsWordReason misfit told.word
   pub params : told.params ≡ given

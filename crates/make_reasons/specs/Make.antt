@@ -1,4 +1,4 @@
--- Why no certificate is made of an image for a job, and in which words it is told.
+-- Why no certificate is made of an image for a job, and the words for it.
 use Rattle.std.specs.Prelude.{◌≡◌, ℕ, ◌-◌, ◌++◌, not, Bool, List, [], codes, length}
 use Rattle.std.specs.Prelude.{position, Option, Some, None, string_bytes, if◌then◌else◌}
 use Rattle.std.specs.Fmt.{decimal}
@@ -24,7 +24,7 @@ use Rattle.make_reasons.specs.declared.make.MakeReason.TheVariants as reason
 
 -- ---- a word that does not fit
 
--- what is told of the word at an address, if there is one, and how it is listed
+-- what a reason holds of the word at an address: the word, if there is one, and how it is listed
 abbrev pub IsWordTold : ℕ → LoopRow → Option ℕ → MakeReason → Type 0
 IsWordTold pc wanted None told = told ≡ reason.NoWord pc wanted
 IsWordTold pc wanted (Some word) (reason.Word at is text of) =
@@ -70,7 +70,7 @@ told_large file size =
     if is_too_short file then reason.Untold
     else reason.LargeFile (length file) (e_phnum file) size
 
--- why a certificate of so many bytes is not attached to a file, whose image has this one
+-- why a certificate of `size` bytes is not attached to a file, whose image has this one
 abbrev pub attach_reason : List ℕ → Option (List ℕ) → ℕ → ElfError → MakeReason
 attach_reason file there size error.CertificateThere = reason.Certified (certificate_size there)
 attach_reason file there size error.TooLarge = told_large file size

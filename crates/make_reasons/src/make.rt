@@ -42,9 +42,9 @@ pub enum MakeReason {
         place: usize,
         size: u32,
     },
-    /// The file has a certificate already, of so many bytes.
+    /// The file has a certificate already, of this number of bytes.
     Certified(usize),
-    /// The file has too many program headers, or is too large with a certificate of so many bytes.
+    /// The file has too many program headers, or is too large with a certificate of `certificate` bytes.
     LargeFile {
         size: usize,
         headers: u16,
@@ -118,8 +118,8 @@ fn certificate_size(image: &Image) -> usize
     }
 }
 
-/// Why a certificate of so many bytes is not attached to the file of an image: `Untold` where there is
-/// nothing to tell.
+/// Why a certificate of `certificate` bytes is not attached to the file of an image. `Untold` where there
+/// is nothing to tell.
 pub fn attach_reason(file: &[u8], image: &Image, certificate: usize, error: ElfError) -> MakeReason
     ensures { result ≡ attach_reason file.now image.now.certificate certificate error }
 {

@@ -5,7 +5,7 @@ use Rattle.sandbox_run.specs.Session.{SessionView}
 use Rattle.machine.specs.Machine.{Machine}
 use Rattle.machine.specs.Run.{after, has_ended, GoesOnUntil}
 
--- so many steps, and nothing else: they are counted, and the run is the one that was opened
+-- `j` steps, and nothing else: they are counted, and the run is the one that was opened
 pub record Does (vlenb j : ℕ) (old new : SessionView) : Type 0 where
   pub leads : after vlenb old.machine j ≡ Ok new.machine
   pub counted : new.steps ≡ old.steps + j

@@ -42,7 +42,7 @@ with_two name first second =
     else (if bytes_eq name (codes "l") then two_or_bad Listing (address_of first) (count_of second)
     else Err Unknown)
 
--- The command that words are. An unknown one is told before a bad number.
+-- The command that words are. An unknown one comes before a bad number.
 abbrev pub command_from : List (List ℕ) → Result Command MonError
 command_from [] = Err Unknown
 command_from (name ∷ []) = with_none name

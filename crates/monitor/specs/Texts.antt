@@ -18,7 +18,7 @@ break_text address = codes "break " ++ (word_text address ++ codes "\n")
 unfoldable pub gone_text : ℕ → List ℕ
 gone_text address = codes "gone " ++ (word_text address ++ codes "\n")
 
--- where a run stands after so many steps
+-- where a run stands after `steps` steps
 unfoldable pub stop_text : Bool → ℕ → ℕ → List ℕ
 stop_text ended pc steps =
     if ended then codes "ended step " ++ (decimal steps ++ codes "\n")

@@ -14,7 +14,7 @@ pub enum Command {
     Break(u32),
     /// `d`: no breakpoint at an address.
     Delete(u32),
-    /// `s`: at most so many steps.
+    /// `s`: at most that number of steps.
     Step(u32),
     /// `c`: one step, and then on to a breakpoint or the end.
     Continue,
@@ -24,14 +24,14 @@ pub enum Command {
     Vector(Reg),
     /// `csr`: pc, and what the vector extension keeps beside its registers.
     Csrs,
-    /// `m`: so many bytes from an address on, 1 to 256.
+    /// `m`: `count` bytes from an address on, 1 to 256.
     Memory {
         /// Where the first lies.
         address: u32,
         /// How many.
         count: u32,
     },
-    /// `l`: a listing of so many words from an address on, 1 to 256.
+    /// `l`: a listing of `count` words from an address on, 1 to 256.
     List {
         /// Where the first lies.
         address: u32,

@@ -135,7 +135,7 @@ impl<'a, const VLENB: usize> Monitor<'a, VLENB> {
         }
     }
 
-    /// Does what a line asks for, and writes what is told of it.
+    /// Does what a line asks for, and writes the text for it.
     ///
     /// # Errors
     /// The first of: `Unknown`, `BadNumber`, `TooManyBreakpoints`, `NotThere`, `NoBytes`; then

@@ -9,7 +9,7 @@ use crate::texts::{put_byte_if, put_line};
 use rv_listing::{Failed, Piece, Sink, put_all};
 use sandbox_run::Session;
 
-/// So many bytes, or words, of a run's memory, from an address on.
+/// `count` bytes, or words, of a run's memory, from an address on.
 #[derive(Clone, Copy)]
 pub(crate) struct View<'a, const VLENB: usize> {
     session: &'a Session<VLENB>,
@@ -47,7 +47,7 @@ fn put_line_from<const VLENB: usize, S: Sink>(
 }
 
 impl<'a, const VLENB: usize> View<'a, VLENB> {
-    /// So many bytes or words from an address on.
+    /// `count` bytes or words from an address on.
     pub(crate) fn new(session: &'a Session<VLENB>, address: u32, count: u32) -> View<'a, VLENB>
         ensures run { result.session.now ≡ session.now }
         ensures address { result.address ≡ address }
@@ -60,7 +60,7 @@ impl<'a, const VLENB: usize> View<'a, VLENB> {
         }
     }
 
-    /// The byte so many after the first.
+    /// The byte that lies `offset` bytes after the first.
     #[tactic(auto, unfolding(crate::specs::Views::byte_at))]
     fn byte_after(&self, offset: u32) -> Option<u8>
         ensures { result ≡ byte_at self.now.session.now.machine.memory (self.now.address + offset) }
@@ -99,7 +99,7 @@ impl<'a, const VLENB: usize> View<'a, VLENB> {
         true
     }
 
-    /// Tells the byte so many after the first.
+    /// Tells the byte that lies `offset` bytes after the first.
     fn put_byte_after<S: Sink>(&self, out: &mut S, offset: u32) -> Result<(), Failed>
         ensures { Told result (S.contents out.old) (S.contents out.new) (S.failures out.old)
             (S.failures out.new)

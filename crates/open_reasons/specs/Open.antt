@@ -1,4 +1,4 @@
--- Why a run was not started, and in which words it is told.
+-- Why a run was not started, and the words for it.
 use Rattle.std.specs.Prelude.{ℕ, ◌++◌, List, [], length, codes, Option, Some, None}
 use Rattle.std.specs.Fmt.{decimal}
 use Rattle.std.specs.List.{slice_get}

@@ -45,7 +45,7 @@ fn given_of<A: Allocator>(arg: &Arg<Bytes<A>>) -> Given
     }
 }
 
-/// What is told of an argument.
+/// What the parameter at a place wants, and what was passed there.
 fn argument_at<A: Allocator>(
     place: usize,
     parameters: &Parameters,

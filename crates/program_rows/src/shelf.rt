@@ -4,7 +4,7 @@ use commands::{Store, StoreError};
 use std::alloc::{AllocError, Global};
 use std::io;
 
-/// Files in memory, of which some may fail to be read or written, and a line for each call. What is written can be read.
+/// Files in memory, and a line for each call. Some files may fail to be read or written. What is written can be read.
 #[derive(Drop)]
 pub(crate) struct Shelf {
     pub alloc: Global,

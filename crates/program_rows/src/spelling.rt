@@ -5,10 +5,10 @@
 //! | `|TEXT` | this text, with its end |
 //! | `@hex DIGITS ..` | bytes of two digits each |
 //! | `@code WORD ..` | a static image whose one segment is this code, at 0x10000 |
-//! | `@zeros N` | so many zeros |
-//! | `@times N DIGITS` | these bytes so many times |
+//! | `@zeros N` | `N` zeros |
+//! | `@times N DIGITS` | these bytes `N` times |
 //! | `@at PLACE DIGITS` | none: the bytes from this place of the file on become these |
-//! | `@cut N` | none: the file ends behind so many bytes |
+//! | `@cut N` | none: the file ends behind `N` bytes |
 //! | `@as PATH` | none: the file lies at this path |
 //!
 //! `@fails PATH` begins a file that can be neither read nor written. What stands behind ` -- ` in a line that begins with `@`

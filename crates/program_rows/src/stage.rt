@@ -26,7 +26,7 @@ pub(crate) struct Stage<'a> {
     asked: Option<Asked<'a>>,
 }
 
-/// What is told of lines that came, None where they are the wanted ones.
+/// How the lines that came differ, None where they are the wanted ones.
 fn unlike(
     alloc: Global,
     words: &str,
@@ -56,8 +56,8 @@ impl<'a> Stage<'a> {
         }
     }
 
-    /// Takes a line of a case or of a part. What was asked before is performed first where another thing is asked: what is
-    /// told of it, None where all is as wanted.
+    /// Takes a line of a case or of a part. What was asked before is performed first where another thing is asked: how
+    /// it differs, None where all is as wanted.
     pub(crate) fn take(&mut self, line: &'a str) -> Result<Option<String>, CaseError> {
         let alloc = self.shelf.alloc;
         if let Some(words) = line.strip_prefix("$ ") {
@@ -118,7 +118,7 @@ impl<'a> Stage<'a> {
         Ok(told)
     }
 
-    /// Performs what was asked, where something was: what is told of it, None where all is as wanted.
+    /// Performs what was asked, where something was: how it differs, None where all is as wanted.
     pub(crate) fn conclude(&mut self) -> Result<Option<String>, CaseError> {
         match self.asked.take() {
             None => Ok(None),

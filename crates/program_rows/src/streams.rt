@@ -1,4 +1,4 @@
-//! Streams in memory, of which some fail.
+//! Streams in memory. Some of them fail.
 use std::io;
 use std::io::{Read, Write};
 

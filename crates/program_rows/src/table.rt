@@ -50,7 +50,7 @@ fn take_parts<'a>(stage: &mut Stage<'a>, texts: Texts<'a>, names: &str) -> Resul
     Ok(())
 }
 
-/// Tries the case that begins at a line: what is told of it, None where all is as wanted.
+/// Tries the case that begins at a line: how it differs, None where all is as wanted.
 fn difference(alloc: Global, texts: Texts<'_>, start: usize) -> Result<Option<String>, CaseError> {
     let mut stage = Stage::new(alloc);
     for line in texts.own.lines().skip(start.saturating_add(1)) {
@@ -69,7 +69,7 @@ fn difference(alloc: Global, texts: Texts<'_>, start: usize) -> Result<Option<St
     stage.conclude()
 }
 
-/// The same, where a case that is not tried is told too.
+/// The same, with a report on a case that is not tried too.
 fn told(alloc: Global, texts: Texts<'_>, start: usize) -> Result<Option<String>, AllocError> {
     match difference(alloc, texts, start) {
         Ok(difference) => Ok(difference),

@@ -136,7 +136,7 @@ pub where_none : (A : Type 0) (fault : Option ElfError) → fault ≡ None → I
 where_none A None none there = there
 where_none A (Some e) none there = absurd (cc)
 
--- what is told later is all, where nothing is told before
+-- what comes later is all, where nothing is refused before
 pub none_before : {A : Type 0} (asked : Option Refusal) (fault : Option ElfError) (x : Option Refusal) (r : Result A Refusal)
     → asked ≡ None → fault ≡ None → IsRefused x r → IsRefused (option_or (option_or asked (option_map image_refusal fault)) x) r
 none_before None None x r none nothing is = is

@@ -18,7 +18,7 @@ use Rattle.rvvbox_c.specs.Status.{plain, image_refusal, certificate_refusal, che
 use Rattle.rvvbox_c.specs.declared.status.Refusal.{Refusal}
 use Rattle.rvvbox_c.specs.declared.status.Status.TheVariants as status
 
--- the length of vector registers of so many bits
+-- the length of vector registers of `bits` bits
 abbrev pub vlen_at : ℕ → Option Vlen
 vlen_at bits =
     if bits == 128 then Some V128
@@ -83,7 +83,7 @@ if_faultless vlen file None =
 abbrev pub accepted_of : Vlen → List ℕ → Result AcceptedView Why
 accepted_of vlen file = if_faultless vlen file (fault_of file)
 
--- the same for registers of so many bits
+-- the same for a length that may be missing
 abbrev pub at_vlen : Option Vlen → List ℕ → Result AcceptedView Why
 at_vlen None file = Err (Known (plain status.BadVlen))
 at_vlen (Some vlen) file = accepted_of vlen file
@@ -105,7 +105,7 @@ abbrev pub IsRefusalOf : {A : Type 0} → Result A Why → Refusal → Type 0
 IsRefusalOf defined refusal =
     ((why : Why) × (defined ≡ Err why) × Tells why refusal) ⊎ (refusal ≡ plain status.NoMemory)
 
--- What is told: that all was done, where there is what is defined, or such a refusal.
+-- The answer: that all was done, where there is what is defined, or such a refusal.
 abbrev pub IsAnswer : {A : Type 0} → Result A Why → Refusal → Type 0
 IsAnswer defined refusal =
     (IsOk defined × (refusal ≡ plain status.Done)) ⊎ IsRefusalOf defined refusal

@@ -1,4 +1,4 @@
--- What each call answers: what is wrong before memory is asked for, and what is told later.
+-- What each call answers: what is wrong before memory is asked for, and what comes later.
 use Rattle.std.specs.Prelude.{ℕ, ◌≡◌, ◌⊎◌, true, List, Option, None, Some}
 use Rattle.std.specs.Option.{option_map, option_or}
 use Rattle.block_checker.specs.Accepted.{AcceptedView}

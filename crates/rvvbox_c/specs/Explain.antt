@@ -78,8 +78,8 @@ abbrev pub put_over : List ℕ → List ℕ → List ℕ
 put_over bytes old =
     take (min (length bytes) (length old)) bytes ++ drop (min (length bytes) (length old)) old
 
--- Such a text stands at the start of the host's, as much of it as there is room for; all behind it
--- stays, and its whole length is told.
+-- Such a text stands at the start of the host's, as much of it as there is room for. All behind it
+-- stays, and `needed` is the text's whole length.
 pub record HasExplained (bits : ℕ) (file old new : List ℕ) (needed : ℕ) : Type 0 where
   pub vlen : Vlen
   pub length_is : vlen_at bits ≡ Some vlen

@@ -28,7 +28,7 @@ kernel_owns p None = feq Ptr p null_ptr
 kernel_owns p (Some a) = box_owns (ghosts.dealloc_token global) held_row p a
 
 -- The image that the file spells, with the certificate in its note, which passed the check for
--- vector registers of so many bits.
+-- vector registers of `bits` bits.
 abbrev pub IsKeptOf : List ℕ → ℕ → Option AcceptedView → Type 0
 IsKeptOf file bits None = ⊥
 IsKeptOf file bits (Some a) =

@@ -141,12 +141,12 @@ made_at_once bits takes file = option_or (refused_by (length_in bits))
 abbrev pub IsOrWant : {A : Type 0} → Result A Refusal → Result A Refusal → Type 0
 IsOrWant defined answer = (answer ≡ defined) ⊎ (answer ≡ Err (plain status.NoMemory))
 
--- what is told of an answer: the refusal, or that all was done
+-- the refusal for an answer: its own, or that all was done
 abbrev pub told : {A : Type 0} → Result A Refusal → Refusal
 told (Ok done) = plain status.Done
 told (Err refusal) = refusal
 
--- What is told is that of the answer that is defined, or want of memory.
+-- The refusal is that of the answer that is defined, or want of memory.
 abbrev pub IsToldOrWant : {A : Type 0} → Result A Refusal → Refusal → Type 0
 IsToldOrWant defined refusal = (refusal ≡ told defined) ⊎ (refusal ≡ plain status.NoMemory)
 

@@ -1,4 +1,4 @@
--- A run that was opened: what is told of it, and which bytes it may be put back to.
+-- A run that was opened: what a host learns of it, and which bytes it may be put back to.
 use Rattle.std.specs.Prelude.{ℕ, ◌≡◌, ◌==◌, ◌≤◌, ◌+◌, Bool, false, nat_lt, List, length, Option, None, Some, if◌then◌else◌}
 use Rattle.std.specs.Option.{option_map, option_or}
 use Rattle.sandbox_run.specs.AnySession.{run_in, vlenb_in}
@@ -14,7 +14,7 @@ use Rattle.rvvbox_c.specs.declared.opened.Sizes.{Sizes}
 use Rattle.rvvbox_c.specs.declared.status.Refusal.{Refusal}
 use Rattle.rvvbox_c.specs.declared.status.Status.{Status, TheVariants.WrongKind, TheVariants.WrongSize}
 
--- ---- what is told
+-- ---- what a host learns
 
 -- 1 of what is so, and 0 of what is not
 abbrev pub bit_of : Bool → ℕ
@@ -81,7 +81,7 @@ sizes_in s b0 b1 b2 b3 b4 b5 b6 b7 = record {
   a7 = named_in s.a7 b7;
 }
 
--- so many bytes can't take those of the run's argument: it has none, or another number of them
+-- `n` bytes can't take those of the run's argument: it has none, or another number of them
 abbrev pub size_differs : Option ℕ → ℕ → Option Status
 size_differs None n = Some WrongKind
 size_differs (Some m) n = if m == n then None else Some WrongSize

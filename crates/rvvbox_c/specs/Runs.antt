@@ -23,7 +23,7 @@ abbrev pub number_of : Agnostic → ℕ
 number_of Keep = 0
 number_of Ones = 1
 
--- A run of an accepted image on these arguments ends after so many steps, in this state: they
+-- A run of an accepted image on these arguments ends after `steps` steps, in this state: they
 -- match the image's parameters, and the steps are no more than its bound.
 pub record IsRun (vlenb : ℕ) (agnostic : Agnostic) (a : AcceptedView) (args : List Argument)
     (steps : ℕ) (last : Machine) : Type 0 where

@@ -151,7 +151,7 @@ at_place s k = record {
   reserved = 0;
 }
 
--- one of a run that may take so many steps
+-- one of a run that may take `n` steps
 abbrev pub too_long : ℕ → Refusal
 too_long n = record {
   status = code_of status.BoundTooLarge;
@@ -166,7 +166,7 @@ too_long n = record {
 abbrev pub image_refusal : ElfError → Refusal
 image_refusal error = by_rule (status_of_image error) (image_rule error) 0
 
--- of bytes that are no certificate, of which so many were read
+-- of bytes that are no certificate, with `read` of them read
 abbrev pub certificate_refusal : CertError → ℕ → Refusal
 certificate_refusal error read = record {
   status = code_of (status_of_certificate error);
@@ -200,11 +200,11 @@ abbrev pub IsRefused : {A : Type 0} → Option Refusal → Result A Refusal → 
 IsRefused refusal (Ok done) = refusal ≡ None
 IsRefused refusal (Err told) = (refusal ≡ Some told) ⊎ (told ≡ plain status.NoMemory)
 
--- what is told: the refusal, or that all was done
+-- the answer: the refusal, or that all was done
 abbrev pub told_of : Option Refusal → Refusal
 told_of refusal = unwrap_or refusal (plain status.Done)
 
--- What is told is this, or want of memory.
+-- The refusal is this, or want of memory.
 abbrev pub IsThisOrWant : Refusal → Refusal → Type 0
 IsThisOrWant this refusal = (refusal ≡ this) ⊎ (refusal ≡ plain status.NoMemory)
 

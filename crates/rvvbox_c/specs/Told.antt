@@ -1,4 +1,4 @@
--- What is told of a kernel: its parameters, and its budget.
+-- What a host learns of a kernel: its parameters, and its budget.
 use Rattle.std.specs.Prelude.{ℕ, List, map}
 use Rattle.region_mem.specs.declared.parameter.Mode.{Mode, TheVariants.Read, TheVariants.ReadWrite}
 use Rattle.region_mem.specs.declared.parameter.Param.{Param}

@@ -1,4 +1,4 @@
--- A try of any image on the host's own bytes: which run it is, and what is told of it.
+-- A try of any image on the host's own bytes: which run it is, and what the host learns of it.
 use Rattle.std.specs.Prelude.{ℕ, ◌≡◌, ◌==◌, ◌||◌, Bool, List, [], ◌∷◌, length, min, None, Some, if◌then◌else◌}
 use Rattle.elf_image.specs.Faults.{fault_of}
 use Rattle.elf_image.specs.File.{image_of}
@@ -48,7 +48,7 @@ params_in (form ∷ forms) (read ∷ reads) [] = []
 params_in (form ∷ forms) (read ∷ reads) (put ∷ puts) =
     param_in form read put ∷ params_in forms reads puts
 
--- ---- what is told
+-- ---- what the host learns
 
 -- the number of a fault
 abbrev pub fault_number : Fault → ℕ
@@ -87,7 +87,7 @@ is_tried number = number == code_of status.Done || number == code_of status.Trap
 
 -- ---- which run it is
 
--- what comes of a run of the image on these arguments, for at most so many steps
+-- what comes of a run of the image on these arguments, for at most `max` steps
 abbrev pub tried_from : ℕ → Agnostic → ℕ → ImageView → List Param → List Argument → Tried
 tried_from vlenb agnostic max image params args =
     tried_of (answer_of vlenb (outcome vlenb max (start vlenb agnostic image params args)))

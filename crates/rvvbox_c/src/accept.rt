@@ -17,7 +17,7 @@ use elf_image::Image;
 use std::alloc::Global;
 use vreg_groups::{Agnostic, Vlen};
 
-/// The length of vector registers of so many bits.
+/// The length of vector registers of `bits` bits.
 pub(crate) fn vlen_of(bits: u32) -> Option<Vlen>
     ensures value { result ≡ vlen_at bits }
     ensures bits { IfSome result (λ vlen. vlenb_of vlen * 8 ≡ bits) }

@@ -94,7 +94,7 @@ pub extern "C" fn rvvbox_apart(places: &[Place], refusal: &mut Refusal) -> u32
     refusal.status
 }
 
-/// What is told of places.
+/// The answer for places.
 fn judged(places: &[Place]) -> Refusal
     ensures counted { length places.now ≢ 8 → result ≡ plain BadCount }
     ensures named { result.status ≡ 0 → AreNamed places.now }

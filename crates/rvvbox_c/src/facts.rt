@@ -1,4 +1,4 @@
-//! What a host is told of a kernel.
+//! What a host learns of a kernel.
 ghost use Rattle.std.specs.Prelude.{◌≡◌, ◌≢◌, ◌*◌, IfSome, None, Some, length};
 ghost use Rattle.std.specs.Option.{option_map};
 ghost use Rattle.block_checker.specs.Bound.{bound_of as bound_for};

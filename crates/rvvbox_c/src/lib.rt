@@ -1,5 +1,5 @@
 //! What a host in C calls: to check an image, to run it on the host's own bytes, once or many times,
-//! or by so many steps at a time, and to try any image.
+//! or by a number of steps at a time, and to try any image.
 #![tactic(auto)]
 
 mod accept;

@@ -132,7 +132,7 @@ impl Takes {
     }
 }
 
-/// The length of vector registers of so many bits.
+/// The length of vector registers of `bits` bits.
 fn length_in(bits: u32) -> Result<Vlen, Refusal>
     ensures answer { result ≡ length_of bits }
     ensures failed { IfErr result (λ refusal. IsFailure refusal.status) }

@@ -120,7 +120,7 @@ impl Sizes {
     }
 
     /// Why the run's bytes can't be put back to these: the first place that is to be put back and
-    /// has another size, or of which the run has no bytes.
+    /// has another size, or has no bytes in the run.
     #[tactic(auto, using(crate::proofs::OpenLemmas::either_fails))]
     pub(crate) fn refusal(
         &self,

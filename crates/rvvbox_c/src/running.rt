@@ -1,4 +1,4 @@
-//! A run that a host goes on with by so many steps at a time.
+//! A run that a host goes on with by a number of steps at a time.
 ghost use Rattle.std.specs.Prelude.{◌≡◌, IfErr, IfOk, Option, None, Some};
 ghost use Rattle.std.specs.Option.{option_map};
 ghost use Rattle.rvvbox_c.specs.Running.{StandingView, run_kept, run_owns};

@@ -1,4 +1,4 @@
-//! Runs of a kernel that go on by so many steps at a time, until they are closed.
+//! Runs of a kernel that go on by a number of steps at a time, until they are closed.
 ghost use Rattle.std.specs.Prelude.{◌≡◌, ◌≤◌, ◌+◌, IfSome, IsSomeAnd, None, Some, false};
 ghost use Rattle.region_mem.specs.Memory.{args_of, byte_of};
 ghost use Rattle.rvvbox_c.specs.Forms.{all_left, eight, forms_of};

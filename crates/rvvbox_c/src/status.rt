@@ -272,7 +272,7 @@ impl Refusal {
         }
     }
 
-    /// A refusal of bytes that are no certificate, of which so many were read.
+    /// A refusal of bytes that are no certificate, with `read` of them read.
     pub(crate) fn unread(error: CertError, read: usize) -> Refusal
         ensures told { result ≡ certificate_refusal error read }
         ensures failed { IsFailure result.status }
@@ -283,7 +283,7 @@ impl Refusal {
         }
     }
 
-    /// A refusal of a run that may take so many steps.
+    /// A refusal of a run that may take `steps` steps.
     pub(crate) fn too_long(steps: u128) -> Refusal
         ensures told { result ≡ too_long steps }
         ensures failed { IsFailure result.status }

@@ -38,7 +38,7 @@ AreKept [] (b ∷ bs) = ⊥
 AreKept (a ∷ xs) [] = ⊥
 AreKept (a ∷ xs) (b ∷ bs) = IsKept a b × AreKept xs bs
 
--- Over the bytes from an address on of which none may be written.
+-- From an address on each byte that may not be written is the same.
 abbrev AreSame : ℕ → List Area → List Area → Type 0
 AreSame from xs bs = (x : ℕ) → from ≤ x → is_open Write xs x ≡ false → byte_at x bs ≡ byte_at x xs
 

@@ -1,4 +1,4 @@
--- Runs that go on for at most so many steps.
+-- Runs that go on for a limited number of steps.
 use Rattle.std.proofs.Common.{◌≡◌, ℕ, zero, suc, ◌+◌, ◌-◌, ◌<◌, Bool, true, false, if◌then◌else◌, Ok, refl, sym, arith}
 use Rattle.machine.specs.Machine.{Machine}
 use Rattle.machine.specs.MachineStep.{step}

@@ -1,4 +1,4 @@
--- Which reason not to open a run is told.
+-- Which reason not to open a run is the answer.
 use Rattle.std.proofs.Common.{◌≡◌, ℕ, ◌<◌, ◌≤◌, List, Some, None, refl, arith}
 use Rattle.std.proofs.lemmas.Bool.Decides.{nat_tests}
 use Rattle.region_mem.specs.Parameter.{Argument, AreArguments, argument_error}

@@ -5,7 +5,7 @@ use Rattle.sandbox_run.specs.Words.{after, args_of, Fault, Machine, Stop, Ended,
 use Rattle.sandbox_run.specs.declared.outcome.{Final.Final, Outcome.Outcome}
 use Rattle.sandbox_run.specs.declared.outcome.Outcome.TheVariants as outcome
 
--- a machine in which so many steps were done, as a run hands it out
+-- a machine after `steps` steps, as a run hands it out
 abbrev pub final_of : (vlenb : ℕ) → ℕ → Machine → Final vlenb (List ℕ)
 final_of vlenb steps m = record {
   steps = steps;
@@ -27,7 +27,7 @@ abbrev pub pc_in : Result Machine Fault → Option ℕ
 pc_in (Ok m) = Some m.hart.pc
 pc_in (Err fault) = None
 
--- pc of the state before the last of so many steps from a state
+-- pc of the state before the last of a number of steps from a state
 abbrev pub last_pc : ℕ → Machine → ℕ → Option ℕ
 last_pc vlenb first zero = None
 last_pc vlenb first (suc k) = pc_in (after vlenb first k)

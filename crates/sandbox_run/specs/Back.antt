@@ -3,7 +3,7 @@ use Rattle.std.specs.Prelude.{ℕ, ◌≡◌, false, List, [], ◌∷◌, length
 use Rattle.region_mem.specs.declared.arguments.Arg.TheVariants as argument
 use Rattle.sandbox_run.specs.Words.{Agnostic, Argument, ForEachStart, Machine, Param, after, args_of, is_writable, start}
 
--- the same, but for the bytes of a buffer, of which there are as many
+-- the same, but for the bytes of a buffer: they may differ, and are as many
 abbrev pub HasShapeOf : Argument → Argument → Type 0
 HasShapeOf argument.None back = back ≡ argument.None
 HasShapeOf (argument.Scalar value) back = back ≡ argument.Scalar value

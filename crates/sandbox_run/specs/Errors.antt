@@ -1,4 +1,4 @@
--- Why a run was not started, and how that is told.
+-- Why a run was not started, and the words for it.
 use Rattle.std.specs.Prelude.{ℕ, ◌++◌, List, codes}
 use Rattle.std.specs.Fmt.{decimal}
 use Rattle.region_mem.specs.declared.parameter.ArgError.TheVariants as argument_error

@@ -2,14 +2,14 @@
 use Rattle.std.specs.Prelude.{ℕ, ◌≡◌, ◌<◌, ◌≤◌, List, length, Ok}
 use Rattle.sandbox_run.specs.Words.{AcceptedView, Agnostic, AllByRecursion, AreArguments, Argument, BringsBytes, GoesOnUntil, IsPermittedIn, Keeps, Machine, after, bound_of, scalars_of, start, vlenb_of}
 
--- After so many steps from the first state the run stands here, and in no state before had it
+-- After `steps` steps from the first state the run stands here, and in no state before had it
 -- ended.
 abbrev pub IsStop : ℕ → Machine → ℕ → Machine → Type 0
 IsStop vlenb first steps m = (after vlenb first steps ≡ Ok m) × GoesOnUntil vlenb first steps
 
--- Such a stop comes after at most n steps, each of which was permitted by the areas and rights of
--- the start, and memory has kept where these lie, the rights, what was passed, and each byte that
--- may not be written.
+-- Such a stop comes after at most n steps. The areas and rights of the start permitted each step.
+-- Memory has kept where these lie, the rights, what was passed, and each byte that may not be
+-- written.
 pub record StopsWell (vlenb n : ℕ) (first : Machine) (steps : ℕ) (m : Machine) : Type 0 where
   pub within : steps ≤ n
   pub permitted : (j : ℕ) → j < steps → (u : Machine) → after vlenb first j ≡ Ok u

@@ -5,7 +5,7 @@ use Rattle.sandbox_run.specs.Session.{IsOpened, SessionView}
 use Rattle.sandbox_run.specs.Stops.{IsStop}
 use Rattle.sandbox_run.specs.Words.{AcceptedView, Agnostic, AllByRecursion, AreArguments, Argument, BringsBytes, Machine, args_of, bound_of, has_ended, scalars_of, start, vlenb_of}
 
--- From its first state the run has ended after so many steps, at most the bound, here and in no
+-- From its first state the run has ended after `steps` steps, at most the bound, here and in no
 -- state before. What is handed back here comes back of what was passed, and matches the parameters.
 -- Each session that is opened on these arguments ends after these steps, and here.
 pub record IsWholeRun (vlenb : ℕ) (agnostic : Agnostic) (a : AcceptedView) (args : List Argument)

@@ -129,8 +129,8 @@ impl AnySession {
         }
     }
 
-    /// Does one step, or nothing where the run has ended. Which it was is told by `Some` and
-    /// `None`.
+    /// Does one step, or nothing where the run has ended. The answer is `Some` after a step, and
+    /// else `None`.
     pub fn step(&mut self) -> Option<()>
         ensures vlenb { vlenb_in self.new ≡ vlenb_in self.old }
         ensures end { IsNone result ↔ (has_ended (run_in self.old).machine ≡ true) }

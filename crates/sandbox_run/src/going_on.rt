@@ -1,4 +1,4 @@
-//! Runs of accepted images that go on for so many steps at a time.
+//! Runs of accepted images that go on for a limited number of steps at a time.
 ghost use Rattle.std.specs.Prelude.{◌≡◌, ◌≤◌, ◌+◌, ◌-◌, Ok, false, if◌then◌else◌};
 ghost use Rattle.sandbox_run.specs.AnySession.{run_in, vlenb_in};
 ghost use Rattle.machine.specs.Run.{Ended, OutOfSteps, after, has_ended, outcome_from};

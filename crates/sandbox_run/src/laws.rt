@@ -76,8 +76,8 @@ pub fn tries_are_runs<A: Allocator>(accepted: &Accepted<A>)
     accepted.runs_end();
 }
 
-/// A run that ends or faults with so many steps allowed does the same with any number above it. One
-/// that is out of steps goes on from where it stands.
+/// A run that ends or faults with one number of steps allowed does the same with any greater one. A
+/// run that is out of steps goes on from where it stands.
 pub fn more_steps_change_nothing()
     ensures { MoreStepsChangeNothing }
 {}

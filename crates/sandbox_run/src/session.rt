@@ -207,8 +207,8 @@ pub fn open_in_with<const VLENB: usize, A: Allocator + Copy, B: Allocator>(
 }
 
 impl<const VLENB: usize, A: Allocator> Session<VLENB, A> {
-    /// Does one step, or nothing where the run has ended. Which it was is told by `Some` and
-    /// `None`.
+    /// Does one step, or nothing where the run has ended. The answer is `Some` after a step, and
+    /// else `None`.
     pub fn step(&mut self) -> Option<()>
         ensures end { IsNone result ↔ (has_ended self.old.machine ≡ true) }
         ensures stays { IsNone result → self.new ≡ self.old }

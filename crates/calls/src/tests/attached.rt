@@ -11,8 +11,8 @@ const BEHIND: [u8; 36] = [
     0x73, 0x00, 0x00, 0x00,
 ];
 
-/// What stands behind the file once it has the certificate 1, 2, 3, 4, 5: the program headers, of which the second is the
-/// note's, and the note.
+/// What stands behind the file once it has the certificate 1, 2, 3, 4, 5: the program headers and the note. The second
+/// header is the note's.
 const ATTACHED: [u8; 92] = [
     1, 0, 0, 0, 84, 0, 0, 0, 0x00, 0x00, 0x01, 0x00, 0x00, 0x00, 0x01, 0x00, //
     4, 0, 0, 0, 4, 0, 0, 0, 5, 0, 0, 0, 4, 0, 0, 0, //

@@ -6,7 +6,7 @@ use region_mem::{Args, Param, Parameters, Regions};
 use std::alloc::Global;
 use std::process::Abort;
 
-/// The ELF header of an executable for RISC-V that is entered at a place and has so many program headers.
+/// The ELF header of an executable for RISC-V that is entered at `entry` and has `headers` program headers.
 pub(crate) fn elf_header(entry: u32, headers_at: u8, headers: u8) -> [u8; 52] {
     let [e0, e1, e2, e3] = entry.to_le_bytes();
     [

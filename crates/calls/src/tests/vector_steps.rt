@@ -53,7 +53,7 @@ fn bytes_are_raised_in_memory(rt: HostRuntime) {
         assert_same!(rt; memory.load(0x2000, 4), Some(0xff00_0403));
         assert_same!(rt; vectors.byte(Reg::new(8), 3), 0xff);
         assert_same!(rt; scalar.pc(), 0x1010);
-        // vse8.v v8,(x10), of which two bytes may be written.
+        // vse8.v v8,(x10): two of its bytes may be written.
         scalar.set_reg(Reg::new(10), 0x200e);
         let refused = step(
             &mut vectors,

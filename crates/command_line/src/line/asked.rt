@@ -12,8 +12,8 @@ use commands::{MakePaths, Sink, Status, Stop, Stream};
 use rv_listing::{print, put};
 use std::alloc::{AllocError, Global};
 
-/// What a command line asks for: a subcommand with its paths, whether more of why it stops is told, and, of a run, whether the
-/// registers that it left are.
+/// What a command line asks for: a subcommand with its paths, whether it is to explain why it stops, and, of a run, whether the
+/// registers that it left are printed.
 #[derive(Drop)]
 pub enum Line<'a> {
     /// Checks the image at `image` against its certificate.

@@ -1,4 +1,4 @@
-//! Subcommands on files in memory, of which all is known.
+//! Subcommands on files in memory. All is known of these files.
 use crate::tests::assertions::given;
 use crate::tests::performances::{performed, performed_words};
 use crate::tests::system::{IMAGE, JOB};
@@ -181,7 +181,7 @@ fn writes_and_reads_no_file_that_is_refused(rt: HostRuntime) {
     }
 }
 
-/// Asserts that words are refused, and that what is told of them shows a text, and no control character but ends of lines.
+/// Asserts that words are refused, and that what is printed of them shows a text, and no control character but ends of lines.
 fn shows(rt: impl Abort + Copy, alloc: Global, words: &[&str], shown: &str) {
     let mut memory = Memory::new(alloc);
     let came = performed_words(alloc, words, &mut memory, b"".as_slice());

@@ -89,7 +89,7 @@ impl<R: Read + Copy + Drop> System for Everywhere<R> {
     }
 }
 
-/// How many bytes are read from a reader that gives so many, in at most eight reads and as far as `most`, or why they are not.
+/// How many bytes are read from a reader that gives `left`, in at most eight reads and as far as `most`, or why they are not.
 fn read_of(alloc: Global, left: u64, most: usize) -> Result<usize, StoreError> {
     let mut system = Everywhere::new(Drip { left });
     Ok(read_some(&mut system, alloc, "a", 8, most)?.len())

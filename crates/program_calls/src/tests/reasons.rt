@@ -47,7 +47,7 @@ fn tells_a_budget(rt: HostRuntime) {
     assert_shows(rt, rt.alloc(), budget, "1 + 2 * x10 + 3 * x11");
 }
 
-/// What is told of the image and the certificate of the kernel's file with a byte changed.
+/// The reason against the image and the certificate of the kernel's file with a byte changed.
 fn told(rt: impl Abort + Copy, alloc: Global, place: usize, byte: u8) -> Option<CheckReason> {
     let file = changed(rt, alloc, FILE, place, byte);
     let image = given!(rt; elf_image::read(alloc, &file));
@@ -56,7 +56,7 @@ fn told(rt: impl Abort + Copy, alloc: Global, place: usize, byte: u8) -> Option<
     given!(rt; check_reason(alloc, &image, &certificate, Vlen::V128))
 }
 
-/// lbu t0,4(a0): the last bytes lie behind the buffer. lbu t0,0(a0), as it is: nothing is told of what passes.
+/// lbu t0,4(a0): the last bytes lie behind the buffer. lbu t0,0(a0), as it is: there is no reason where it passes.
 #[test]
 fn tells_a_word_of_an_image(rt: HostRuntime) {
     let expected = "  stopped in the block at 0x00010004

@@ -37,8 +37,8 @@ pub(crate) fn some_of<T>(rt: impl Abort + Copy, call: &str, answer: Option<T>) -
     }
 }
 
-/// A value as it is, of which a proof knows nothing: what it would know of a call's answer it pays
-/// for at each arm of a `match`.
+/// A value as it is. A proof knows nothing of it: what it would know of a call's answer it pays for
+/// at each arm of a `match`.
 pub(crate) fn opaque<T>(value: T) -> T {
     value
 }

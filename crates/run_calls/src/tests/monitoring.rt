@@ -126,7 +126,7 @@ fn pieces_make_a_text(rt: HostRuntime) {
     assert_same!(rt; out.into_inner().as_slice(), b"at 00010004 17-3".as_slice());
 }
 
-/// Commands on a run over nine words, and what is told of each.
+/// Commands on a run over nine words, and the answer to each.
 const STRIPS: [(&str, &str); 11] = [
     ("b 10004", "break 00010004\n"),
     ("c", "at 00010004 step 1\n"),
@@ -168,7 +168,7 @@ fn assert_cut(
     }
 }
 
-/// Gives a command, and asserts what is told of it.
+/// Gives a command, and asserts the answer to it.
 fn assert_told(
     rt: impl Abort + Copy,
     alloc: Global,

@@ -20,7 +20,7 @@ pub(crate) const RAISE: &str =
      0000000b0000030000000001f0fffffff0ffffffff0a000000404000004002000000400bfcffffff22040000\
      000b0100000010000000ff240001000100000000000000000000010000000001f0fffffff0ffffffff000000";
 
-/// Raises the first of so many words by one, on the kernel's file.
+/// Raises the first `many` words by one, on the kernel's file.
 fn raised(alloc: Global, file: &[u8], words: &[u8], many: u32) -> Result<(u64, Args), Fail> {
     let image = elf_image::read(alloc, file)?;
     let certificate = cert_note::read(alloc, image.certificate().ok_or("no certificate")?)?;

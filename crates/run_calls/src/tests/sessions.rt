@@ -12,7 +12,7 @@ use std::alloc::Global;
 use std::process::Abort;
 use vreg_groups::Agnostic;
 
-/// A buffer of so many bytes, each 3, where there is one, a number, and another, where there is
+/// A buffer of `size` bytes, each 3, where there is one, a number, and another, where there is
 /// one.
 pub(crate) fn args(
     rt: impl Abort + Copy,

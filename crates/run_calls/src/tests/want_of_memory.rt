@@ -1,5 +1,5 @@
-//! Calls on files and certificates of which each allocation fails in turn: the answer is want of
-//! memory there, and what is wrong with the bytes is told all the same.
+//! Calls on files and certificates. Each of their allocations fails in turn: the answer is want of
+//! memory there. What is wrong with the bytes is answered all the same.
 use crate::refusing::Refusing;
 use crate::tests::assertions::{assert_same, found, given};
 use crate::tests::kernels::{bytes_of, file_of, put};
@@ -28,7 +28,7 @@ const FILE: &str = "\
 04000000d772060c0704050207880502570488022704050273000000deadbeef07000000a90000000100000052565642\
 4f580000";
 
-/// A certificate of one block, with two facts on registers, of which one is equal to a scalar, and
+/// A certificate of one block, with two facts on registers, one of them equal to a scalar, and
 /// one on a vector register.
 const CERTIFICATE: &str = "\
 010001000203000003000000000000000201000003000000000000000100000003000000030000000000000000000000\
@@ -49,7 +49,7 @@ fn certificate(rt: impl Abort + Copy, alloc: Global) -> Vec<u8> {
     bytes_of(rt, alloc, CERTIFICATE)
 }
 
-/// What a call answers, with an allocator that serves so many allocations and refuses the next.
+/// What a call answers, with an allocator that serves `after` allocations and refuses the next.
 /// Asserts that it has refused one where the answer is an error, and else none, and that some was
 /// served.
 pub(crate) fn served<T, E>(
@@ -63,7 +63,7 @@ pub(crate) fn served<T, E>(
     answer
 }
 
-/// What a call gives that is served, as `served` asserts. Nothing where memory was wanting, and asserts that this is told.
+/// What a call gives that is served, as `served` asserts. Nothing where memory was wanting, and then it asserts that error.
 pub(crate) fn given_or_wanting<T, E: PartialEq + Drop>(
     rt: impl Abort + Copy,
     heap: Heap<'_>,
@@ -80,8 +80,7 @@ pub(crate) fn given_or_wanting<T, E: PartialEq + Drop>(
     }
 }
 
-/// Makes a call with allocators of which each serves one allocation more than the one before, until the call tells that it
-/// is served.
+/// Makes a call with allocators until the call tells that it is served. Each allocator serves one more than the last.
 pub(crate) fn until_served<F: Fn(Heap<'_>, u64) -> bool>(
     rt: impl Abort + Copy,
     alloc: Global,
@@ -116,8 +115,8 @@ fn is_image_read(
     true
 }
 
-/// A list of segments, the bytes of two, and those of the certificate. Of a file with wrong flags the fault is told before any
-/// memory is asked for, whichever allocation would be refused.
+/// A list of segments, the bytes of two, and those of the certificate. For a file with wrong flags the fault is answered before
+/// any memory is asked for, whichever allocation would be refused.
 #[test]
 fn reading_an_image(rt: HostRuntime) {
     let alloc = rt.alloc();
@@ -156,8 +155,8 @@ fn is_attached(
     true
 }
 
-/// The bytes of the file that is written. The one that is read stays as it is. Of files that are given no certificate the
-/// reason is told before any memory is asked for, whichever allocation would be refused.
+/// The bytes of the file that is written. The one that is read stays as it is. For files that are given no certificate the
+/// reason is answered before any memory is asked for, whichever allocation would be refused.
 #[test]
 fn attaching(rt: HostRuntime) {
     let alloc = rt.alloc();
@@ -248,8 +247,8 @@ fn writing_a_certificate(rt: HostRuntime) {
     });
 }
 
-/// Asserts that no certificate is made for parameters that are too short: the load's fault, which
-/// is told before any memory is asked for. The load is kept.
+/// Asserts that no certificate is made for parameters that are too short: the load's fault is
+/// answered before any memory is asked for. The load is kept.
 fn expect_unmade(rt: impl Abort + Copy, heap: Heap<'_>, image: &Image, short: &Parameters) {
     let refused = make_in(heap, image, short, Vlen::V128).err();
     assert_same!(rt; refused, Some(MakeError::NotALoopOfTheClass(0x1_0008)));

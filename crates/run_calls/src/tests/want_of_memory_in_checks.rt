@@ -1,4 +1,4 @@
-//! Checks of which each allocation fails in turn, and the states that they start blocks with: the
+//! Checks, and the states that they start blocks with. Each of their allocations fails in turn: the
 //! answer is want of memory there, what is refused is refused all the same, and the image and the
 //! certificate come back as they were.
 ghost use Rattle.std.specs.Prelude.{◌<◌, length};
@@ -38,8 +38,8 @@ fn expect_words(
     assert_same!(rt; state.refine(true).is_some(), true);
 }
 
-/// Asserts that what is known at a block is told or wants memory, and that the words of the block,
-/// as many as here, take none. Tells whether it is told.
+/// Asserts that what is known at a block is answered or wants memory, and that the words of the
+/// block, as many as here, take none. Tells whether it is answered.
 fn is_block_known(
     rt: impl Abort + Copy,
     heap: Heap<'_>,
@@ -116,7 +116,7 @@ fn expect_way(
     assert_same!(rt; implies(&edge, block).is_ok(), true);
 }
 
-/// Asserts that what is known at the entry is told or wants memory, and tells whether it is told.
+/// Asserts that what is known at the entry is answered or wants memory, and tells whether it is answered.
 fn is_entry_known(
     rt: impl Abort + Copy,
     heap: Heap<'_>,

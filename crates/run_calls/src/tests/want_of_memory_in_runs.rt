@@ -1,4 +1,4 @@
-//! Runs and sessions of which each allocation fails in turn: the answer is want of memory there,
+//! Runs and sessions. Each of their allocations fails in turn: the answer is want of memory there,
 //! and the arguments come back as they were.
 use crate::refusing::Refusing;
 use crate::tests::assertions::{assert_same, found, given, opaque};
@@ -125,8 +125,8 @@ fn starting_a_memory(rt: HostRuntime) {
     });
 }
 
-/// What a call gives that is served. Nothing where memory was wanting, and asserts that this is told
-/// and that the arguments come back.
+/// What a call gives that is served. Nothing where memory was wanting, and then it asserts that
+/// error, and that the arguments come back.
 fn opened_or_wanting<T>(
     rt: impl Abort + Copy,
     heap: Heap<'_>,

@@ -1,4 +1,4 @@
--- Each reason is told as its own error.
+-- Each reason has its own error.
 use Rattle.std.proofs.Common.{arith}
 use Rattle.std.proofs.lemmas.Grind.{common_steps}
 use Rattle.block_checker.proofs.errors.told.Goals as goal

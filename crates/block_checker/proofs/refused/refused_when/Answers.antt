@@ -1,4 +1,4 @@
--- A way that is refused is told.
+-- A way that is refused is the answer.
 use Rattle.std.proofs.Common.{arith}
 use Rattle.std.proofs.lemmas.Grind.{common_steps}
 use Rattle.block_checker.specs.Explained.{if_refused}

@@ -15,7 +15,7 @@ use rv_decode::{FixedOp, IntOp, MultiplyAddOp, Reg, Width};
 use std::process::Abort;
 use vreg_groups::{Agnostic, Element, Lmul, Setup, VregFile, Vtype};
 
-/// Elements of one width, of which a group has `$most` at VLEN 512.
+/// Elements of one width. A group has `$most` of them at VLEN 512.
 macro_rules! try_width {
     ($rt:ident, $element:ident, $width:ident, $most:literal) => {
         for k in 0..LENGTHS.len() {

@@ -1,4 +1,4 @@
--- A way out is told by what is kept behind the word.
+-- What is kept behind the word gives the way out.
 use Rattle.check_reasons.proofs.KeptPlaces.{behind_wanted}
 use Rattle.check_reasons.proofs.check.wanted_of.Goals as goal
 

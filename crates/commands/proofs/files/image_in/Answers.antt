@@ -1,4 +1,4 @@
--- What is told of the refusal explains why the file is no image.
+-- The answer to the refusal explains why the file is no image.
 use Rattle.commands.proofs.WhyLemmas.{image_explained}
 use Rattle.commands.proofs.files.image_in.Goals as goal
 

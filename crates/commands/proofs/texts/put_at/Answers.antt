@@ -1,4 +1,4 @@
--- An address is told in eight digits of base 16.
+-- An address is written in eight digits of base 16.
 use Rattle.std.proofs.Common.{◌++◌, append_assoc}
 use Rattle.std.specs.Prelude.{codes}
 use Rattle.region_mem.specs.Digits.{digits_text}

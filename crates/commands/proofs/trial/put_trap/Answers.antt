@@ -1,4 +1,4 @@
--- What the fault carries is told in eight digits of base 16.
+-- What the fault carries is written in eight digits of base 16.
 use Rattle.commands.proofs.WordLemmas.{word_digits}
 use Rattle.commands.proofs.trial.put_trap.Goals as goal
 

@@ -1,4 +1,4 @@
--- An address that has no breakpoint is told so.
+-- An address without a breakpoint is a fault.
 use Rattle.std.proofs.Common.{arith}
 use Rattle.std.proofs.lemmas.Grind.{common_steps}
 use Rattle.monitor.proofs.breakpoints.delete.Goals as goal

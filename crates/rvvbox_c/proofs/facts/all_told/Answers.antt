@@ -1,4 +1,4 @@
--- What is told is told of the eight, one by one.
+-- The eight are told one by one.
 use Rattle.std.proofs.Common.{rules}
 use Rattle.rvvbox_c.proofs.Eights.{eight_mapped}
 use Rattle.rvvbox_c.specs.Told.{parameter_of}

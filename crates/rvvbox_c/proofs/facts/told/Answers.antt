@@ -1,4 +1,4 @@
--- A buffer is told by its mode.
+-- A buffer's kind goes by its mode.
 use Rattle.std.proofs.Common.{arith}
 use Rattle.std.proofs.lemmas.Grind.{common_steps}
 use Rattle.rvvbox_c.proofs.facts.told.Goals as goal

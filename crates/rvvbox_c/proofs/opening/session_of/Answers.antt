@@ -1,4 +1,4 @@
--- Where no session is opened, the fault is told, or want of memory.
+-- Where no session is opened, the answer is the fault, or want of memory.
 use Rattle.std.proofs.Common.{arith}
 use Rattle.std.proofs.lemmas.Grind.{common_steps}
 use Rattle.rvvbox_c.proofs.opening.session_of.Goals as goal

@@ -1,4 +1,4 @@
--- The image is that of the file, and nothing is told before it is run.
+-- The image is that of the file, and nothing is refused before it is run.
 use Rattle.std.proofs.Common.{◌≡◌, None, sym}
 use Rattle.elf_image.specs.Faults.{fault_of}
 use Rattle.elf_image.specs.File.{image_of}

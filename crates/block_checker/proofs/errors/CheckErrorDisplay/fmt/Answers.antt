@@ -1,4 +1,4 @@
--- The address is told behind the words.
+-- The address stands behind the words.
 use Rattle.std.proofs.Common.{arith}
 use Rattle.std.proofs.lemmas.Grind.{common_steps}
 use Rattle.block_checker.proofs.errors.CheckErrorDisplay.fmt.Goals as goal

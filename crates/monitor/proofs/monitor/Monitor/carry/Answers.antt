@@ -1,4 +1,4 @@
--- So many steps are done at most.
+-- At most the number of steps asked for is done.
 use Rattle.std.proofs.Common.{arith}
 use Rattle.std.proofs.lemmas.Grind.{common_steps}
 use Rattle.monitor.proofs.monitor.Monitor.carry.Goals as goal

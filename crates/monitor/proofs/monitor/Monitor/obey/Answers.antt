@@ -1,4 +1,4 @@
--- The answer is told.
+-- The answer is written.
 use Rattle.std.proofs.Common.{arith}
 use Rattle.std.proofs.lemmas.Grind.{common_steps}
 use Rattle.monitor.proofs.monitor.Monitor.obey.Goals as goal
