@@ -9,8 +9,8 @@ reasons = loaded('reasons')
 
 
 # Where the names stand of an enum's variants, as they are printed.
-NAMES = {'ElfError': 'commands/src/texts.rt', 'CertError': 'commands/src/texts.rt', 'JobError': 'commands/src/texts.rt',
-         'OpenError': 'commands/src/texts.rt', 'MonError': 'commands/src/texts.rt', 'CheckError': 'block_checker/src/errors.rt',
+NAMES = {'ElfError': 'endings/src/texts.rt', 'CertError': 'endings/src/texts.rt', 'JobError': 'endings/src/texts.rt',
+         'OpenError': 'endings/src/texts.rt', 'MonError': 'commands/src/lines.rt', 'CheckError': 'block_checker/src/errors.rt',
          'Fault': 'region_mem/src/faults.rt'}
 
 

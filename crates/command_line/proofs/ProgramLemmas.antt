@@ -6,23 +6,24 @@ use Rattle.clap.specs.Kinds.{Kinds, IsAmong}
 use Rattle.clap.specs.Words.{fault_of, kind_of}
 use Rattle.clap.specs.declared.error.kind.ErrorKind.{ErrorKind}
 use Rattle.command_line.specs.Asked.{is_help, is_request, status_of_line}
-use Rattle.commands.specs.Ending.{Ends}
+use Rattle.endings.specs.Ending.{Ends}
 use Rattle.command_line.specs.Program.{Does, IsAsAsked, IsHeard, IsRefusal, IsRefusalTold, IsSilent, IsStatusFor, IsUntouched, Stops, explains}
 use Rattle.command_line.specs.Line.{IsFaultIn, IsFaultOf, IsLineOf, app}
 use Rattle.file_store.specs.Store.{Files}
-use Rattle.commands.specs.Streams.{Exchange, IsTold, Stream}
+use Rattle.endings.specs.Streams.{IsTold, Stream}
+use Rattle.commands.specs.Changes.{Exchange}
 use Rattle.file_store.specs.Sources.{Input}
 use Rattle.command_line.specs.declared.line.asked.Line.{Line}
 use Rattle.command_line.specs.declared.line.asked.Line.TheVariants as ask
 use Rattle.clap.specs.Words.{Text}
 use Rattle.command_line.specs.declared.line.asked.LineError.{LineError}
 use Rattle.command_line.specs.declared.line.asked.LineError.TheVariants as line_error
-use Rattle.commands.specs.Texts.{stop_text}
+use Rattle.endings.specs.Texts.{stop_text}
 use Rattle.file_store.specs.Written.{Held}
-use Rattle.commands.specs.declared.halt.Halt.TheVariants as halt
-use Rattle.commands.specs.declared.stop.Stop.TheVariants as stop
-use Rattle.commands.specs.declared.stop.Status.{Status}
-use Rattle.commands.specs.declared.stop.Status.TheVariants as status
+use Rattle.endings.specs.declared.halt.Halt.TheVariants as halt
+use Rattle.endings.specs.declared.stop.Stop.TheVariants as stop
+use Rattle.endings.specs.declared.stop.Status.{Status}
+use Rattle.endings.specs.declared.stop.Status.TheVariants as status
 
 or_left : (a b : Bool) → a ≡ true → a || b ≡ true
 or_left true b is = refl

@@ -2,8 +2,8 @@
 use Rattle.std.specs.Prelude.{Bool, true, false}
 use Rattle.clap.specs.declared.error.kind.ErrorKind.{ErrorKind}
 use Rattle.clap.specs.declared.error.kind.ErrorKind.TheVariants.{DisplayHelp, DisplayVersion}
-use Rattle.commands.specs.declared.stop.Status.{Status}
-use Rattle.commands.specs.declared.stop.Status.TheVariants as status
+use Rattle.endings.specs.declared.stop.Status.{Status}
+use Rattle.endings.specs.declared.stop.Status.TheVariants as status
 use Rattle.command_line.specs.Words.{LineError, kind_of}
 use Rattle.command_line.specs.declared.line.asked.LineError.TheVariants as line_error
 

@@ -6,27 +6,27 @@ use Rattle.std.specs.declared.io.ErrorKind.TheVariants.{OutOfMemory}
 use Rattle.command_line.specs.Words.{Check, Kinds, Line, Make, Mon, Run, Try}
 use Rattle.clap.specs.Words.{Text, fault_of}
 use Rattle.commands.specs.Checks.{Checks, StopsCheck}
-use Rattle.commands.specs.Ending.{Ends}
+use Rattle.endings.specs.Ending.{Ends}
 use Rattle.commands.specs.Files.{OfTable, StopsOfTable}
 use Rattle.file_store.specs.Store.{Files}
 use Rattle.commands.specs.Makes.{Makes, StopsMake}
 use Rattle.commands.specs.Mons.{BeforeAll, Mons, StopsMon}
 use Rattle.commands.specs.Runs.{Runs, StopsRun}
-use Rattle.commands.specs.Streams.{Exchange, IsQuiet, IsTold, Stream, Wrote, change}
+use Rattle.endings.specs.Streams.{IsTold, Stream}
+use Rattle.commands.specs.Changes.{Exchange, IsQuiet, Wrote, change}
 use Rattle.file_store.specs.Sources.{Input}
 use Rattle.commands.specs.Tries.{StopsTry, Tries}
-use Rattle.commands.specs.Texts.{stop_text}
+use Rattle.endings.specs.Texts.{stop_text}
 use Rattle.file_store.specs.Written.{Gains, Held}
-use Rattle.commands.specs.declared.did.Did.{Did}
-use Rattle.commands.specs.declared.stop.Status.{Status}
-use Rattle.commands.specs.declared.halt.Halt.{Halt}
-use Rattle.commands.specs.declared.halt.Halt.TheVariants as halt
-use Rattle.commands.specs.declared.stop.Stop.TheVariants as stop
+use Rattle.endings.specs.declared.did.Did.{Did}
+use Rattle.endings.specs.declared.stop.Status.{Status}
+use Rattle.endings.specs.declared.halt.Halt.{Halt}
+use Rattle.endings.specs.declared.halt.Halt.TheVariants as halt
+use Rattle.endings.specs.declared.stop.Stop.TheVariants as stop
 use Rattle.file_store.specs.declared.store.TheConstants.{MOST_READS}
 use Rattle.command_line.specs.Asked.{is_help}
-use Rattle.job_reasons.specs.declared.job.Command.TheVariants as command
 use Rattle.command_line.specs.Line.{IsLineOf, app}
-use Rattle.commands.specs.declared.stop.Status.TheVariants as status
+use Rattle.endings.specs.declared.stop.Status.TheVariants as status
 
 -- a status, where `clap` finds these faults in the words, one at least; `cut` says that standard
 -- output took no more than the beginning of what was asked for
@@ -90,16 +90,16 @@ Stops files (Check image explain) e was has =
     StopsCheck files (change was has e.had e.has) image.now
 Stops files (Run job explain registers) e was has =
     let c = change was has e.had e.has in
-    StopsOfTable command.Run files (Wrote c) job.now (StopsRun files registers c)
+    StopsOfTable files (Wrote c) job.now (StopsRun files registers c)
 Stops files (Try job explain registers) e was has =
     let c = change was has e.had e.has in
-    StopsOfTable command.Try files (Wrote c) job.now (StopsTry files registers c)
+    StopsOfTable files (Wrote c) job.now (StopsTry files registers c)
 Stops files (Mon job explain) e was has =
-    StopsOfTable command.Mon files (BeforeAll e (Gains was has)) job.now
+    StopsOfTable files (BeforeAll e (Gains was has)) job.now
     (StopsMon MOST_READS files e (Gains was has))
 Stops files (Make paths explain) e was has =
     let c = change was has e.had e.has in
-    StopsOfTable command.Make files (Wrote c) paths.job.now
+    StopsOfTable files (Wrote c) paths.job.now
     (StopsMake files c paths.image.now paths.out.now)
 
 -- whether it is to explain

@@ -8,9 +8,10 @@ ghost use Rattle.command_line.specs.Line.{app};
 ghost use Rattle.command_line.specs.Program.{Does, IsAsAsked, IsHeard, IsRefusalTold, IsSilent};
 ghost use Rattle.command_line.specs.Program.{IsStatusFor, IsUntouched, Stops, explains};
 ghost use Rattle.command_line.specs.Program.{status_without_words, text_without_words};
-ghost use Rattle.commands.specs.Ending.{Ends, PassesOn, code_of};
+ghost use Rattle.endings.specs.Ending.{Ends, PassesOn, code_of};
 ghost use Rattle.file_store.specs.Store.{files_of};
-ghost use Rattle.commands.specs.Streams.{IsTold, exchange, stream};
+ghost use Rattle.endings.specs.Streams.{IsTold, stream};
+ghost use Rattle.commands.specs.Changes.{exchange};
 ghost use Rattle.file_store.specs.Sources.{source};
 
 use crate::line::asked::Line;

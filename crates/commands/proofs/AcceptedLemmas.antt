@@ -15,7 +15,7 @@ use Rattle.machine.specs.Start.{start}
 use Rattle.vreg_groups.specs.declared.policies.Agnostic.{Agnostic}
 use Rattle.commands.specs.Runs.{if_opened}
 use Rattle.commands.specs.Trial.{OrMemory}
-use Rattle.commands.specs.declared.trial.End.TheVariants as end
+use Rattle.endings.specs.declared.stands.End.TheVariants as end
 use Rattle.commands.specs.declared.trial.Trial.{Trial}
 
 -- a run that is opened and ended is the one that is defined

@@ -1,45 +1,42 @@
 -- How a subcommand ends, from what was done and what was told.
-use Rattle.std.proofs.Common.{◌≡◌, ◌∙◌, ◌++◌, ◌⊎◌, ◌-◌, ◌^◌, ◌+◌, ◌<◌, Bool, false, true, ℕ, length, set, get_or, get_or-set_other, get_or-set_same, arith, List, [], Option, Some, option_map, Result, Ok, Err, IfOk, IfErr, IfSome, OnOk, MatchResult, ap, refl, sym, subst, inl, inr, None, unwrap_or}
+use Rattle.std.proofs.Common.{◌≡◌, ◌∙◌, ◌++◌, ◌⊎◌, ◌-◌, ◌^◌, ◌+◌, ◌<◌, Bool, false, true, ℕ, length, set, get_or, get_or-set_other, get_or-set_same, arith, List, [], Option, Some, option_map, Result, Ok, Err, IfOk, IfErr, OnOk, MatchResult, ap, refl, sym, subst, inl, inr}
 use Rattle.std.proofs.lemmas.Bool.{cases_lt}
 use Rattle.std.specs.Borrow.{Bor}
-use Rattle.std.specs.Str.{IsUtf8}
 use Rattle.std.specs.Result.{IsErrAnd}
 use Rattle.std.proofs.lemmas.Result.{MatchResult-weaker}
 use Rattle.block_checker.specs.Accepted.{AcceptedView}
-use Rattle.job_file.specs.Job.{IsTableFault, Text}
-use Rattle.job_file.specs.declared.values.JobError.{JobError}
-use Rattle.job_file.specs.declared.values.JobError.TheVariants as job_error
+use Rattle.job_file.specs.Job.{Text}
 use Rattle.job_file.specs.Needs.{RunJob, run_param_lent}
 use Rattle.job_reasons.specs.declared.job.Command.{Command}
 use Rattle.job_file.specs.declared.values.MakeJob.{MakeJob}
 use Rattle.job_file.specs.declared.values.RunParam.{RunParam}
 use Rattle.job_file.specs.declared.values.RunParam.TheVariants as given
 use Rattle.region_mem.specs.declared.arguments.Arg.TheVariants as argument
-use Rattle.rv_listing.specs.Sinks.{Told}
 use Rattle.toml.specs.Data.{Members}
 use Rattle.toml.specs.Parse.{parse_document}
-use Rattle.commands.specs.Accepted.{IsOrWant}
-use Rattle.commands.specs.Did.{did_of}
-use Rattle.commands.specs.Ending.{Ends, IsMore, Tells, more_if, plain, status_after, status_of, stop_of_job}
-use Rattle.commands.specs.Files.{ArePassed, IsImageAt, IsImageOfFirst, IsNoImageAt, IsNoTable, IsUnfinished, IsUnpassed, IsUnwritten, image_in, outs_of}
+use Rattle.endings.specs.Accepted.{IsOrWant}
+use Rattle.endings.specs.Did.{did_of}
+use Rattle.endings.specs.Ending.{Ends, Tells, plain, status_after, status_of}
+use Rattle.commands.specs.Files.{ArePassed, IsImageAt, IsImageOfFirst, IsNoImageAt, IsNoTable, IsNoTableAt, IsTableAt, IsTableOfFirst, IsUnfinished, IsUnpassed, IsUnwritten, image_in, outs_of}
 use Rattle.file_store.specs.Store.{Files, files_of}
-use Rattle.commands.specs.Halt.{bare, stop_of}
+use Rattle.endings.specs.Halt.{bare, stop_of}
 use Rattle.commands.specs.Makes.{◌>>=◌, made_for, made_of}
 use Rattle.commands.specs.Starts.{IsStarted, IsUnstarted, StopsStarting}
 use Rattle.commands.specs.Steps.{IsUnasked}
-use Rattle.commands.specs.Streams.{Change, IsTold, Prints, Stream, Wrote, change, stream}
+use Rattle.endings.specs.Streams.{Prints, Stream}
+use Rattle.commands.specs.Changes.{Change, Wrote, change}
 use Rattle.commands.specs.Files.{IsFirstOf}
 use Rattle.file_store.specs.System.{IsFirst, Known}
 use Rattle.commands.specs.Trial.{OrMemory, StopsAtTrial, line_of, shown_of, told_of}
-use Rattle.commands.specs.Why.{ExplainsImage}
+use Rattle.endings.specs.Why.{ExplainsImage}
 use Rattle.commands.specs.Words.{Argument, Halt, ImageView}
 use Rattle.file_store.specs.Written.{Gains, Held, Written}
-use Rattle.commands.specs.declared.did.Did.{Did}
-use Rattle.commands.specs.declared.stands.Stand.{Stand}
-use Rattle.commands.specs.declared.stop.Status.{Status}
-use Rattle.commands.specs.declared.stop.Status.TheVariants as status
-use Rattle.commands.specs.declared.stop.Stop.{Stop}
-use Rattle.commands.specs.declared.stop.Stop.TheVariants as stop
+use Rattle.endings.specs.declared.did.Did.{Did}
+use Rattle.endings.specs.declared.stands.Stand.{Stand}
+use Rattle.endings.specs.declared.stop.Status.{Status}
+use Rattle.endings.specs.declared.stop.Status.TheVariants as status
+use Rattle.endings.specs.declared.stop.Stop.{Stop}
+use Rattle.endings.specs.declared.stop.Stop.TheVariants as stop
 use Rattle.commands.specs.declared.trial.Trial.{Trial}
 
 -- ---- how a subcommand ends
@@ -83,18 +80,6 @@ did_so (Err why) s same is ended =
     let done : is_done s ≡ true = elim ended [ inl at ↦ ap is_done at | inr at ↦ ap is_done at ] in
     absurd (let both : true ≡ false = sym done ∙ (ap is_done same ∙ undone (stop_of why)) in cc)
 
--- the text was written in full, or cut
-pub told_on : {E : Type 0} (r : Result (Unit {0}) E) (old new : Option (List ℕ)) (before now : ℕ) (text : List ℕ) → Told r old new before now text
-    → IsTold (stream old before) (stream new now) text
-told_on (Ok done) old new before now text is = inl is
-told_on (Err e) old new before now text is = inr is
-
--- the explanation, where there is a text of it
-pub more_is : {T : Type 0} (view : T → List ℕ) (explains : Bool) (came : Result Did Halt) (text : Option T) → IfSome text (λ t. view t ≡ more_if explains came)
-    → IsMore explains came (unwrap_or (option_map view text) [])
-more_is view explains came (Some text) is = inl is
-more_is view explains came None is = inr refl
-
 -- ---- a reason to stop that a `?` hands on
 
 pub handed_on : {A : Type 0} (does : A → Type 0) (stops : Halt → Type 0) (r : Result A Halt) (why : Halt)
@@ -125,17 +110,18 @@ made_whole job file image bytes spells made = ap (λ (r : Result ImageView Stop)
 
 -- ---- what is read
 
--- a text from which the parser gets no table
-pub no_table : (bytes text : List ℕ) (error : JobError) → text ≡ bytes → IsUtf8 bytes → IsTableFault text error → IsNoTable bytes (stop_of_job error)
-no_table bytes text job_error.NotToml same utf8 is = inr (subst (λ (t : List ℕ). parse_document t ≡ None) same is)
-no_table bytes text job_error.BadKey same utf8 is = absurd is
-no_table bytes text job_error.NoMemory same utf8 is = utf8
+pub table_read : {T : Type 0} (view : T → Members) (files : Files) (path : Text) (had text : List ℕ) (result : Result T Halt)
+    → text ≡ had → files.holds path had → MatchResult result (λ table. parse_document text ≡ Some (view table)) (IsNoTable text)
+    → MatchResult result (λ table. IsTableAt files path (view table)) (IsNoTableAt files path)
+table_read view files path had text (Ok table) same there is = (text, subst (files.holds path) (sym same) there, is)
+table_read view files path had text (Err why) same there is = inr (text, subst (files.holds path) (sym same) there, is)
 
-pub table_parsed : {T : Type 0} (view : T → Members) (bytes text : List ℕ) (r : Result T JobError) → text ≡ bytes → IsUtf8 bytes
-    → IfOk r (λ table. parse_document text ≡ Some (view table)) → IfErr r (IsTableFault text)
-    → MatchResult r (λ table. parse_document bytes ≡ Some (view table)) (λ error. IsNoTable bytes (stop_of_job error))
-table_parsed view bytes text (Ok table) same utf8 is none = subst (λ (t : List ℕ). parse_document t ≡ Some (view table)) same is
-table_parsed view bytes text (Err error) same utf8 is none = no_table bytes text error same utf8 none
+-- the same of the first bytes
+pub table_first : {T : Type 0} (view : T → Members) (known : Option Known) (path : Text) (most : ℕ) (had text : List ℕ) (result : Result T Halt)
+    → text ≡ had → IsFirst known path most had → MatchResult result (λ table. parse_document text ≡ Some (view table)) (IsNoTable text)
+    → IfOk result (λ table. IsTableOfFirst known path most (view table))
+table_first view known path most had text (Ok table) same first is = (text, subst (IsFirst known path most) (sym same) first, is)
+table_first view known path most had text (Err why) same first is = tt
 
 pub image_read : (files : Files) (path : Text) (had file : List ℕ) (result : Result ImageView Halt)
     → file ≡ had → files.holds path had → OrMemory (image_in file) (bare result) → IfErr result (ExplainsImage file)
@@ -204,20 +190,20 @@ unwritten_after a b c params args reason same why = subst (λ (h : Option Held).
 
 -- what is not started stops so, whatever would follow
 pub unstarted : (command : Command) (files : Files) (wrote : Written → Type 0) (later : RunJob Text → AcceptedView → List Argument → Halt → Type 0)
-    (text : List ℕ) (table : Members) (why : Halt) → IsUnstarted command files text table why → wrote [] → StopsStarting command files wrote later text table why
-unstarted command files wrote later text table why (inl (is, _)) none = inl (is, none)
-unstarted command files wrote later text table why (inr (job, asked, inl (is, _))) none = inr (job, asked, inl (is, none))
-unstarted command files wrote later text table why (inr (job, asked, inr (image, there, inl (is, _)))) none =
+    (table : Members) (why : Halt) → IsUnstarted command files table why → wrote [] → StopsStarting command files wrote later table why
+unstarted command files wrote later table why (inl (is, _)) none = inl (is, none)
+unstarted command files wrote later table why (inr (job, asked, inl (is, _))) none = inr (job, asked, inl (is, none))
+unstarted command files wrote later table why (inr (job, asked, inr (image, there, inl (is, _)))) none =
     inr (job, asked, inr (image, there, inl (is, none)))
-unstarted command files wrote later text table why (inr (job, asked, inr (image, there, inr (accepted, passes, inl (is, _))))) none =
+unstarted command files wrote later table why (inr (job, asked, inr (image, there, inr (accepted, passes, inl (is, _))))) none =
     inr (job, asked, inr (image, there, inr (accepted, passes, inl (is, none))))
-unstarted command files wrote later text table why (inr (job, asked, inr (image, there, inr (accepted, passes, inr (args, passed, never))))) none = absurd never
+unstarted command files wrote later table why (inr (job, asked, inr (image, there, inr (accepted, passes, inr (args, passed, never))))) none = absurd never
 
 -- what is started stops for what follows
 pub stops_started : (command : Command) (files : Files) (wrote : Written → Type 0) (later : RunJob Text → AcceptedView → List Argument → Halt → Type 0)
-    (text : List ℕ) (table : Members) (job : RunJob Text) (accepted : AcceptedView) (args : List Argument) (why : Halt)
-    → IsStarted files table job accepted args → later job accepted args why → StopsStarting command files wrote later text table why
-stops_started command files wrote later text table job accepted args why s is =
+    (table : Members) (job : RunJob Text) (accepted : AcceptedView) (args : List Argument) (why : Halt)
+    → IsStarted files table job accepted args → later job accepted args why → StopsStarting command files wrote later table why
+stops_started command files wrote later table job accepted args why s is =
     inr (job, s.asked, inr (s.image, s.there, inr (accepted, s.passes, inr (args, s.passed, is))))
 
 -- ---- how `run` and `try` end

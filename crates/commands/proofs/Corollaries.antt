@@ -4,30 +4,29 @@ use Rattle.std.proofs.lemmas.List.{append-nil}
 use Rattle.job_file.specs.Job.{Text}
 use Rattle.job_file.specs.declared.values.RunParam.{RunParam}
 use Rattle.job_file.specs.declared.values.RunParam.TheVariants as given
-use Rattle.job_reasons.specs.declared.job.Command.{Command}
-use Rattle.job_reasons.specs.declared.job.Command.TheVariants as command
 use Rattle.region_mem.specs.declared.arguments.Arg.TheVariants as argument
 use Rattle.commands.specs.Words.{Argument, Halt, Members}
 use Rattle.commands.specs.Checks.{Checks, StopsCheck}
 use Rattle.commands.specs.Corollary.{AreGiven, IsBoundOf, IsGiven, IsMadeOf, IsRunOf, IsTrialOf, IsWatchOf}
-use Rattle.commands.specs.Did.{did_of, status_with}
-use Rattle.commands.specs.Ending.{Ends, plain, status_after, status_of_end}
+use Rattle.endings.specs.Did.{did_of, status_with}
+use Rattle.endings.specs.Ending.{Ends, plain, status_after, status_of_end}
 use Rattle.commands.specs.Files.{ArePassed, IsPassed, OfTable, StopsOfTable}
 use Rattle.file_store.specs.Store.{bytes_at, files_of}
-use Rattle.commands.specs.Halt.{stop_of}
+use Rattle.endings.specs.Halt.{stop_of}
 use Rattle.commands.specs.Makes.{Makes, StopsMake}
 use Rattle.commands.specs.Mons.{Mons}
 use Rattle.commands.specs.Runs.{Runs, StopsRun}
 use Rattle.commands.specs.Tries.{StopsTry, Tries, passed_by}
-use Rattle.commands.specs.Streams.{Change, Exchange, Stream, Wrote, change, stream}
+use Rattle.endings.specs.Streams.{Stream, stream}
+use Rattle.commands.specs.Changes.{Change, Exchange, Wrote, change}
 use Rattle.file_store.specs.Written.{Gains, Held}
-use Rattle.commands.specs.declared.did.Did.{Did}
+use Rattle.endings.specs.declared.did.Did.{Did}
 use Rattle.commands.proofs.CommandLemmas.{is_done, undone}
-use Rattle.commands.specs.declared.stands.Stand.{Stand}
-use Rattle.commands.specs.declared.stop.Status.{Status}
-use Rattle.commands.specs.declared.stop.Status.TheVariants as status
-use Rattle.commands.specs.declared.trial.End.{End}
-use Rattle.commands.specs.declared.trial.End.TheVariants as end
+use Rattle.endings.specs.declared.stands.Stand.{Stand}
+use Rattle.endings.specs.declared.stop.Status.{Status}
+use Rattle.endings.specs.declared.stop.Status.TheVariants as status
+use Rattle.endings.specs.declared.stands.End.{End}
+use Rattle.endings.specs.declared.stands.End.TheVariants as end
 
 -- A subcommand that ends with one of these does what it does.
 done_of : {explains : Bool} {does : Did → Type 0} {stops : Halt → Type 0} {told tells : Stream} {s : Status}
@@ -90,11 +89,11 @@ are_given was params args (eight, passed) = λ k below. given_at was (get_or par
 abbrev DoesRun : Bool → Held → Text → Change → Did → Type 0
 DoesRun registers was path c = OfTable (files_of (Some was)) path (λ table. Runs (files_of (Some was)) registers table c)
 
-abbrev StopsSo : Command → Held → Text → Change → (Change → List ℕ → Members → Halt → Type 0) → Halt → Type 0
-StopsSo command was path c stops = StopsOfTable command (files_of (Some was)) (Wrote c) path (stops c)
+abbrev StopsSo : Held → Text → Change → (Change → Members → Halt → Type 0) → Halt → Type 0
+StopsSo was path c stops = StopsOfTable (files_of (Some was)) (Wrote c) path (stops c)
 
 pub run_done : {explains : Bool} (registers : Bool) (was has : Held) (path : Text) (old new : List ℕ) (before now : ℕ) (told tells : Stream) (s : Status)
-    → Ends explains (DoesRun registers was path (known was has old new before now)) (StopsSo command.Run was path (known was has old new before now) (StopsRun (files_of (Some was)) registers)) told tells s
+    → Ends explains (DoesRun registers was path (known was has old new before now)) (StopsSo was path (known was has old new before now) (StopsRun (files_of (Some was)) registers)) told tells s
     → s ≡ status.Done → IsRunOf registers was has path old new
 run_done registers was has path old new before now told tells s e is =
     let (did, same, does) = done_of e (ap is_done is) in
@@ -120,7 +119,7 @@ abbrev DoesTry : Bool → Held → Text → Change → Did → Type 0
 DoesTry registers was path c = OfTable (files_of (Some was)) path (λ table. Tries (files_of (Some was)) registers table c)
 
 pub try_done : {explains : Bool} (registers : Bool) (was has : Held) (path : Text) (old new : List ℕ) (before now : ℕ) (told tells : Stream) (s : Status)
-    → Ends explains (DoesTry registers was path (known was has old new before now)) (StopsSo command.Try was path (known was has old new before now) (StopsTry (files_of (Some was)) registers)) told tells s
+    → Ends explains (DoesTry registers was path (known was has old new before now)) (StopsSo was path (known was has old new before now) (StopsTry (files_of (Some was)) registers)) told tells s
     → (s ≡ status.Done) ⊎ (s ≡ status.Stopped) → IsTrialOf registers was has path old new s
 try_done registers was has path old new before now told tells s e is =
     let ended : is_done s ≡ true = elim is [ inl done ↦ ap is_done done | inr stopped ↦ ap is_done stopped ] in
@@ -147,7 +146,7 @@ DoesMake was path job_path out c =
     OfTable (files_of (Some was)) job_path (λ table. Makes (files_of (Some was)) path out table c)
 
 pub make_done : {explains : Bool} (was has : Held) (path job_path out : Text) (old new : List ℕ) (before now : ℕ) (told tells : Stream) (s : Status)
-    → Ends explains (DoesMake was path job_path out (known was has old new before now)) (StopsSo command.Make was job_path (known was has old new before now) (λ c. StopsMake (files_of (Some was)) c path out)) told tells s
+    → Ends explains (DoesMake was path job_path out (known was has old new before now)) (StopsSo was job_path (known was has old new before now) (λ c. StopsMake (files_of (Some was)) c path out)) told tells s
     → s ≡ status.Done → IsMadeOf was has path job_path out old new
 make_done was has path job_path out old new before now told tells s e is =
     let (did, same, does) = done_of e (ap is_done is) in

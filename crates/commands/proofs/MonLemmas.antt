@@ -13,11 +13,12 @@ use Rattle.machine.specs.Machine.{Machine}
 use Rattle.vreg_groups.specs.declared.policies.Agnostic.{Agnostic}
 use Rattle.monitor.specs.declared.commands.Flow.TheVariants as flow
 use Rattle.commands.specs.Mons.{IsOfInput, IsStopped, IsUnanswered}
-use Rattle.commands.specs.Streams.{Exchange, Stream}
+use Rattle.endings.specs.Streams.{Stream}
+use Rattle.commands.specs.Changes.{Exchange}
 use Rattle.file_store.specs.Sources.{IsUnread}
 use Rattle.commands.specs.Talks.{AreTold, GoesOver, IsBroken, IsCutOff, IsLine, Watch, joined}
-use Rattle.commands.specs.declared.stop.Stop.{Stop}
-use Rattle.commands.specs.declared.stop.Stop.TheVariants as stop
+use Rattle.endings.specs.declared.stop.Stop.{Stop}
+use Rattle.endings.specs.declared.stop.Stop.TheVariants as stop
 use Rattle.commands.proofs.TalkLemmas.{behind, consumes-more, prints-more, prints-none, stands-after, stands-none}
 
 pub stopped : (vlenb : ℕ) (agnostic : Agnostic) (max : ℕ) (a : AcceptedView) (args : List Argument) (fault : Option OpenError) (e : Exchange) (opened session : SessionView) (kept : List Argument)

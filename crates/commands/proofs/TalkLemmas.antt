@@ -9,7 +9,7 @@ use Rattle.monitor.specs.declared.commands.Flow.{Flow}
 use Rattle.monitor.specs.declared.commands.Flow.TheVariants as flow
 use Rattle.monitor.specs.declared.commands.MonError.TheVariants as error
 use Rattle.rv_listing.specs.SinkLemmas.{appends_both, keeps_appends, kept_same}
-use Rattle.commands.specs.Streams.{Prints, Stream}
+use Rattle.endings.specs.Streams.{Prints, Stream}
 use Rattle.commands.specs.Talks.{AreAnswered, AreLines, GoesOver, IsAnswered, IsDone, IsLine, Quits, Stands, Talks, Watch, answer_of, error_line, flow_after, joined}
 
 joined-more : (xs ys : List (List ℕ)) → joined (xs ++ ys) ≡ joined xs ++ joined ys

@@ -1,28 +1,21 @@
 -- The explanation of why a subcommand stops.
-use Rattle.std.proofs.Common.{◌≡◌, ◌∙◌, ℕ, List, Option, Some, None, IfNone, IfSome, Result, Ok, Err, IfOk, MatchResult, ap, refl, subst, sym}
-use Rattle.std.specs.Global.{Box, Global}
-use Rattle.std.specs.Result.{result_ok}
-use Rattle.block_checker.specs.Explained.{Explains, IsStopped}
-use Rattle.block_checker.specs.declared.refused.Explanation.{Explanation}
-use Rattle.block_checker.specs.declared.refused.Stop.{Stop as StopView}
+use Rattle.std.proofs.Common.{◌≡◌, ℕ, List, Option, Some, None, IfNone, IfSome, Result, Ok, Err, MatchResult, refl, subst, sym}
+use Rattle.std.specs.Global.{Box}
 use Rattle.cert_maker.specs.Refusal.{misfit_at}
 use Rattle.cert_maker.specs.declared.errors.MakeError.{MakeError}
 use Rattle.cert_maker.specs.declared.refusal.MakeRefusal.{MakeRefusal}
 use Rattle.cert_maker.specs.declared.refusal.MakeRefusal.TheVariants as make_refusal
-use Rattle.check_reasons.specs.Check.{IsListed, IsWanted, explanation_of}
-use Rattle.check_reasons.specs.declared.check.CheckReason.{CheckReason}
 use Rattle.elf_image.specs.Evidence.{evidence_of, refusal_of}
 use Rattle.elf_image.specs.declared.error.ElfError.{ElfError}
 use Rattle.elf_image.specs.declared.error.ElfError.TheVariants as elf_error
 use Rattle.elf_image.specs.declared.evidence.ElfRefusal.{ElfRefusal}
 use Rattle.make_reasons.specs.declared.loops.LoopReason.{LoopReason}
 use Rattle.region_mem.specs.declared.parameter.Param.{Param}
-use Rattle.commands.specs.Halt.{stop_of}
-use Rattle.vreg_groups.specs.declared.vector_length.Vlen.{Vlen}
-use Rattle.commands.specs.Why.{ExplainsImage, ExplainsLoop, ExplainsOpened, IsCheckReason, IsMakeReason, TellsImage, TellsLoop}
-use Rattle.commands.specs.Words.{Argument, CertificateView, CheckError, Halt, ImageView}
-use Rattle.commands.specs.declared.halt.Halt.TheVariants as halt
-use Rattle.commands.specs.declared.stop.Stop.TheVariants as stop
+use Rattle.endings.specs.Halt.{stop_of}
+use Rattle.endings.specs.Why.{ExplainsImage, ExplainsLoop, ExplainsOpened, IsMakeReason, TellsImage, TellsLoop}
+use Rattle.commands.specs.Words.{Argument, Halt, ImageView}
+use Rattle.endings.specs.declared.halt.Halt.TheVariants as halt
+use Rattle.endings.specs.declared.stop.Stop.TheVariants as stop
 
 -- want of memory is one reason to stop
 memory : (why : Halt) → stop_of why ≡ stop.Memory → why ≡ halt.Memory
@@ -44,34 +37,6 @@ memory halt.Output is = cc
 pub memory_opened : (params : List Param) (args : List Argument) (bound max : ℕ) (why : Halt) → stop_of why ≡ stop.Memory
     → ExplainsOpened params args bound max why
 memory_opened params args bound max why is = subst (ExplainsOpened params args bound max) (sym (memory why is)) tt
-
--- the place where a check stops explains its error
-explained : {A : Type 0} (image : ImageView) (certificate : CertificateView) (error : CheckError) (at : Option (StopView A))
-    → IsStopped image certificate error at → Explains image certificate (explanation_of image error at)
-explained image certificate error None is = is
-explained image certificate error (Some at) is = record { word = refl; state = at.state; stop = is }
-
-some_of : {R : Type 0} (a b : R) → Some a ≡ Some b → b ≡ a
-some_of a b is = cc
-
--- what is kept of the reason of a check that is refused: `r` is the reason, where memory suffices, and `told` the error that is kept beside it
-pub check_kept : {A E : Type 0} (image : ImageView) (certificate : CertificateView) (vlen : Vlen) (error told : CheckError) (at : Option (StopView A))
-    (r : Result (CheckReason Global) E) (answer : Option (CheckReason Global)) (kept : Option (Box (CheckReason Global)))
-    → IsStopped image certificate error at → answer ≡ result_ok r → IfSome kept (λ k. answer ≡ Some k.value) → told ≡ error
-    → IfOk r (λ reason. reason.explanation ≡ explanation_of image error at) → IfOk r (λ reason. IsListed reason.explanation.stop reason.listing)
-    → IfOk r (λ reason. IsWanted image certificate vlen reason.explanation reason.wanted)
-    → IfSome kept (λ k. IsCheckReason image certificate vlen told k.value)
-check_kept image certificate vlen error told at r answer None is as_ok same of explains listed wants = tt
-check_kept image certificate vlen error told at (Ok reason) answer (Some k) is as_ok same of explains listed wants =
-    let one : k.value ≡ reason = some_of reason k.value (sym as_ok ∙ same) in
-    subst (IsCheckReason image certificate vlen told) (sym one) (record {
-      fault = ap (λ (e : Explanation). e.error) explains ∙ sym of;
-      stop = subst (Explains image certificate) (sym explains) (explained image certificate error at is);
-      listing = listed;
-      wanted = wants;
-    })
-check_kept image certificate vlen error told at (Err none) answer (Some k) is as_ok same of explains listed wants =
-    absurd (let never : None ≡ Some k.value = sym as_ok ∙ same in cc)
 
 -- ---- refusals with what is known
 

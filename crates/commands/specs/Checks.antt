@@ -2,17 +2,18 @@
 use Rattle.std.specs.Prelude.{◌≡◌, ◌++◌, codes, ℕ, List, [], Some, None, Ok, option_map, ◌==◌, if◌then◌else◌}
 use Rattle.cert_note.specs.Values.{budget_text, product_text}
 use Rattle.cert_note.specs.declared.values.Budget.{Budget}
-use Rattle.commands.specs.Accepted.{accepted_of, certificate_in}
+use Rattle.endings.specs.Accepted.{accepted_of, certificate_in}
 use Rattle.commands.specs.Files.{IsImageAt, IsNoImageAt}
 use Rattle.file_store.specs.Store.{Files}
-use Rattle.commands.specs.Halt.{stop_of}
+use Rattle.endings.specs.Halt.{stop_of}
 use Rattle.commands.specs.Steps.{StopsAt, StopsAtResult}
-use Rattle.commands.specs.Streams.{Change, Cuts, Prints, Wrote}
-use Rattle.commands.specs.Why.{ExplainsAccepted}
+use Rattle.endings.specs.Streams.{Prints}
+use Rattle.commands.specs.Changes.{Change, Cuts, Wrote}
+use Rattle.endings.specs.Why.{ExplainsAccepted}
 use Rattle.commands.specs.Words.{AcceptedView, Gains, Halt, ImageView, Text, Written, block_at}
-use Rattle.commands.specs.declared.did.Did.{Did}
-use Rattle.commands.specs.declared.did.Did.TheVariants as did
-use Rattle.commands.specs.declared.stop.Stop.TheVariants as stop
+use Rattle.endings.specs.declared.did.Did.{Did}
+use Rattle.endings.specs.declared.did.Did.TheVariants as did
+use Rattle.endings.specs.declared.stop.Stop.TheVariants as stop
 
 -- what a budget's text ends with
 abbrev pub second_text : Budget → List ℕ

@@ -8,15 +8,15 @@ use Rattle.job_file.specs.declared.values.RunParam.{RunParam}
 use Rattle.job_file.specs.declared.values.RunParam.TheVariants as given
 use Rattle.region_mem.specs.declared.arguments.Arg.TheVariants as argument
 use Rattle.toml.specs.Parse.{parse_document}
-use Rattle.commands.specs.Accepted.{accepted_of}
+use Rattle.endings.specs.Accepted.{accepted_of}
 use Rattle.commands.specs.Checks.{IsBudget, bound_line}
-use Rattle.commands.specs.Ending.{status_of_end}
+use Rattle.endings.specs.Ending.{status_of_end}
 use Rattle.commands.specs.Files.{image_in, outs_of}
 use Rattle.file_store.specs.Store.{bytes_at}
 use Rattle.commands.specs.Makes.{accepted_in, made_of}
 use Rattle.commands.specs.Mons.{IsStopped}
 use Rattle.commands.specs.Runs.{run_of_job}
-use Rattle.commands.specs.Streams.{Exchange}
+use Rattle.commands.specs.Changes.{Exchange}
 use Rattle.commands.specs.Tries.{passed_by, trial_of}
 use Rattle.commands.specs.Trial.{told_of}
 use Rattle.commands.specs.Words.{Argument, Held, ImageView, Members, Status, Text, vlenb_of, Written}

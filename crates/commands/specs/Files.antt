@@ -1,27 +1,24 @@
 -- The files of a job: what is read before its run, and what is written after it.
-use Rattle.std.specs.Prelude.{if◌then◌else◌, ◌≡◌, ◌<◌, ◌-◌, ◌^◌, ◌⊎◌, Bool, false, true, ℕ, List, [], ◌∷◌, length, get_or, take, Option, Some, None, Result, Ok, Err}
+use Rattle.std.specs.Prelude.{◌≡◌, ◌<◌, ◌-◌, ◌^◌, ◌⊎◌, ℕ, List, [], ◌∷◌, length, get_or, take, Option, Some, None, Result, Ok, Err}
 use Rattle.std.specs.List.{filter_map, zip}
-use Rattle.std.specs.Str.{IsUtf8, bytes_eq}
+use Rattle.std.specs.Str.{IsUtf8}
 use Rattle.elf_image.specs.Faults.{fault_of}
 use Rattle.elf_image.specs.File.{image_of}
 use Rattle.job_file.specs.declared.values.JobError.TheVariants.{NotToml}
 use Rattle.job_file.specs.declared.values.RunParam.{RunParam}
 use Rattle.job_file.specs.declared.values.RunParam.TheVariants as given
-use Rattle.job_reasons.specs.declared.job.Command.{Command}
 use Rattle.region_mem.specs.declared.arguments.Arg.TheVariants as argument
 use Rattle.toml.specs.Parse.{parse_document}
-use Rattle.commands.specs.Accepted.{OrMemory}
-use Rattle.commands.specs.Ending.{IsOfFile, stop_of_image}
-use Rattle.commands.specs.Halt.{stop_of}
-use Rattle.commands.specs.Streams.{Change, Cuts, Wrote}
-use Rattle.file_store.specs.Store.{Files, if_failed, is_among, files_of, bytes_at, last_at}
+use Rattle.endings.specs.Accepted.{OrMemory}
+use Rattle.endings.specs.Ending.{IsOfFile, stop_of_image}
+use Rattle.endings.specs.Halt.{stop_of}
+use Rattle.commands.specs.Changes.{Change, Cuts, Wrote}
+use Rattle.file_store.specs.Store.{Files}
 use Rattle.file_store.specs.System.{IsFirst, Known}
-use Rattle.commands.specs.Why.{ExplainsImage, ExplainsJob}
+use Rattle.endings.specs.Why.{ExplainsImage, ExplainsText}
 use Rattle.commands.specs.Words.{Argument, ElfError, Gains, Halt, Held, ImageView, Members, Stop, Text, Written}
-use Rattle.commands.specs.declared.did.Did.{Did}
-use Rattle.file_store.specs.declared.store.StoreError.{StoreError}
-use Rattle.file_store.specs.declared.store.StoreError.TheVariants as store_error
-use Rattle.commands.specs.declared.stop.Stop.TheVariants as stop
+use Rattle.endings.specs.declared.did.Did.{Did}
+use Rattle.endings.specs.declared.stop.Stop.TheVariants as stop
 
 -- ---- what is read
 
@@ -88,38 +85,42 @@ abbrev pub IsNoImageAt : Files → Text → Halt → Type 0
 IsNoImageAt files path why = IsOfFile files.unread path (stop_of why)
     ⊎ ((bytes : List ℕ) × files.holds path bytes × IsNoImage bytes why)
 
--- the file at a path has this text, which spells this table of a job
-abbrev pub IsJobAt : Files → Text → List ℕ → Members → Type 0
-IsJobAt files path text table = files.holds path text × (parse_document text ≡ Some table)
-
--- the same of some text
+-- the file at a path has a text that spells this table of a job
 abbrev pub IsTableAt : Files → Text → Members → Type 0
 IsTableAt files path table =
     (text : List ℕ) × files.holds path text × (parse_document text ≡ Some table)
 
--- why a text spells no table: it is not UTF-8, or not TOML; memory may run out where it is UTF-8
-abbrev pub IsNoTable : List ℕ → Stop → Type 0
-IsNoTable text (stop.Job NotToml) = (¬ (IsUtf8 text)) ⊎ (parse_document text ≡ None)
-IsNoTable text stop.Memory = IsUtf8 text
-IsNoTable text other = ⊥
+-- the same of the first bytes of the file
+abbrev pub IsTableOfFirst : Option Known → Text → ℕ → Members → Type 0
+IsTableOfFirst known path most table =
+    (text : List ℕ) × IsFirst known path most text × (parse_document text ≡ Some table)
 
--- why a command reads no table at a path: the file is not read, or spells none
-abbrev pub IsNoTableAt : Command → Files → Text → Halt → Type 0
-IsNoTableAt command files path why = IsOfFile files.unread path (stop_of why)
-    ⊎ ((text : List ℕ) × files.holds path text × IsNoTable text (stop_of why)
-    × ExplainsJob command text why)
+-- the reason of a text that spells no table: it is not UTF-8, or not TOML; memory may run out where
+-- it is UTF-8
+abbrev pub IsTextFault : List ℕ → Stop → Type 0
+IsTextFault text (stop.Job NotToml) = (¬ (IsUtf8 text)) ⊎ (parse_document text ≡ None)
+IsTextFault text stop.Memory = IsUtf8 text
+IsTextFault text other = ⊥
+
+-- why a text spells no table
+abbrev pub IsNoTable : List ℕ → Halt → Type 0
+IsNoTable text why = IsTextFault text (stop_of why) × ExplainsText text why
+
+-- why no table is read at a path: the file is not read, or spells none
+abbrev pub IsNoTableAt : Files → Text → Halt → Type 0
+IsNoTableAt files path why = IsOfFile files.unread path (stop_of why)
+    ⊎ ((text : List ℕ) × files.holds path text × IsNoTable text why)
 
 -- the same on the table that the file at a path spells
 abbrev pub OfTable : Files → Text → (Members → Did → Type 0) → Did → Type 0
 OfTable files path does d = (table : Members) × IsTableAt files path table × does table d
 
--- why a command on a job stops: its file spells no table, or for a reason of the file's text and
--- table. `wrote xs` says that the files `xs` were written
-abbrev pub StopsOfTable : Command → Files → (Written → Type 0) → Text
-    → (List ℕ → Members → Halt → Type 0) → Halt → Type 0
-StopsOfTable command files wrote path later why =
-    (IsNoTableAt command files path why × wrote [])
-    ⊎ ((text : List ℕ) × (table : Members) × IsJobAt files path text table × later text table why)
+-- why a command on a job stops: its file spells no table, or for a reason of the table. `wrote xs`
+-- says that the files `xs` were written
+abbrev pub StopsOfTable : Files → (Written → Type 0) → Text → (Members → Halt → Type 0) → Halt
+    → Type 0
+StopsOfTable files wrote path later why = (IsNoTableAt files path why × wrote [])
+    ⊎ ((table : Members) × IsTableAt files path table × later table why)
 
 -- ---- what is written
 

@@ -15,19 +15,20 @@ use Rattle.job_file.specs.declared.values.MakeJob.{MakeJob}
 use Rattle.job_reasons.specs.declared.job.Command.TheVariants as command
 use Rattle.region_mem.specs.Parameter.{parameters_of}
 use Rattle.region_mem.specs.declared.parameter.Param.{Param}
-use Rattle.commands.specs.Accepted.{IsOrWant, accepted_of}
+use Rattle.endings.specs.Accepted.{IsOrWant, accepted_of}
 use Rattle.commands.specs.Checks.{IsBudget, IsUntold, bound_line}
-use Rattle.commands.specs.Ending.{IsOfFile}
+use Rattle.endings.specs.Ending.{IsOfFile}
 use Rattle.commands.specs.Files.{IsNoImage, image_in, unless_fault}
 use Rattle.file_store.specs.Store.{Files}
-use Rattle.commands.specs.Halt.{stop_of}
+use Rattle.endings.specs.Halt.{stop_of}
 use Rattle.commands.specs.Steps.{StopsAt, StopsAtJob, StopsAtResult}
-use Rattle.commands.specs.Streams.{Change, Prints, Wrote}
-use Rattle.commands.specs.Why.{ByStep, ExplainsAccepted, ExplainsAttached, ExplainsImage, ExplainsJob, ExplainsLoop}
+use Rattle.endings.specs.Streams.{Prints}
+use Rattle.commands.specs.Changes.{Change, Wrote}
+use Rattle.endings.specs.Why.{ByStep, ExplainsAccepted, ExplainsAttached, ExplainsImage, ExplainsLoop, ExplainsTable}
 use Rattle.commands.specs.Words.{AcceptedView, CertificateView, Gains, Halt, ImageView, Members, Stop, Text}
-use Rattle.commands.specs.declared.did.Did.{Did}
-use Rattle.commands.specs.declared.did.Did.TheVariants as did
-use Rattle.commands.specs.declared.stop.Stop.TheVariants as stop
+use Rattle.endings.specs.declared.did.Did.{Did}
+use Rattle.endings.specs.declared.did.Did.TheVariants as did
+use Rattle.endings.specs.declared.stop.Stop.TheVariants as stop
 
 -- what follows a value, or the reason to stop
 infixl 10 ◌>>=◌
@@ -126,12 +127,12 @@ StopsMade files c out bytes accepted why =
     (IsOfFile files.unwritten out (stop_of why) × Wrote c [])
     ⊎ IsUntold c accepted ((out, bytes) ∷ []) why
 
--- `make` on a job's text and table: it asks for no job, the image's file is not read, spells no
+-- `make` on a job's table: it asks for no job, the image's file is not read, spells no
 -- image, none is made of it, that is not accepted when it is read back, or afterwards. Once the
 -- image is read, want of memory does not come where there is no certificate of it for the job
-abbrev pub StopsMake : Files → Change → Text → Text → List ℕ → Members → Halt → Type 0
-StopsMake files c path out text table =
-    StopsAtJob (Wrote c) (make_job_in table) (ExplainsJob command.Make text) (λ job.
+abbrev pub StopsMake : Files → Change → Text → Text → Members → Halt → Type 0
+StopsMake files c path out table =
+    StopsAtJob (Wrote c) (make_job_in table) (ExplainsTable command.Make table) (λ job.
     StopsAt (Wrote c) (λ why. IsOfFile files.unread path (stop_of why)) (files.holds path) (λ file.
     StopsAt (Wrote c) (IsNoImage file) (λ image. image_in file ≡ Ok image) (λ image.
     StopsAtResult (Wrote c) (certificate_for job image) (made_for job file image)

@@ -6,20 +6,20 @@ use Rattle.job_reasons.specs.declared.job.Command.TheVariants as command
 use Rattle.region_mem.specs.Memory.{args_of}
 use Rattle.sandbox_run.specs.Session.{IsOpened, SessionView, open_fault}
 use Rattle.sandbox_run.specs.Stops.{IsStop}
-use Rattle.commands.specs.Ending.{stop_of_open}
+use Rattle.endings.specs.Ending.{stop_of_open}
 use Rattle.commands.specs.Files.{IsUnwritten, outs_of}
 use Rattle.file_store.specs.Store.{Files}
-use Rattle.commands.specs.Halt.{stop_of}
-use Rattle.commands.specs.Runs.{ExplainsRun}
+use Rattle.endings.specs.Halt.{stop_of}
+use Rattle.endings.specs.Why.{ExplainsRun}
 use Rattle.commands.specs.Starts.{IsStarted, StopsStarting}
 use Rattle.commands.specs.Steps.{StopsAt}
-use Rattle.commands.specs.Streams.{Exchange, IsQuiet}
+use Rattle.commands.specs.Changes.{Exchange, IsQuiet}
 use Rattle.file_store.specs.Sources.{IsUnread}
 use Rattle.commands.specs.Talks.{AreTold, IsBroken, IsLastBroken, IsLeft, Watch, watch}
 use Rattle.commands.specs.Words.{AcceptedView, Agnostic, Argument, Gains, Halt, Held, Members, OpenError, start, Stop, Text, vlenb_of, Written}
-use Rattle.commands.specs.declared.did.Did.{Did}
-use Rattle.commands.specs.declared.did.Did.TheVariants as did
-use Rattle.commands.specs.declared.stop.Stop.TheVariants as stop
+use Rattle.endings.specs.declared.did.Did.{Did}
+use Rattle.endings.specs.declared.did.Did.TheVariants as did
+use Rattle.endings.specs.declared.stop.Stop.TheVariants as stop
 
 -- ---- a job's run, stopped
 
@@ -111,9 +111,8 @@ StopsWatched most files e wrote job accepted args =
 abbrev pub BeforeAll : Exchange → (Written → Type 0) → Written → Type 0
 BeforeAll e wrote files = wrote files × IsQuiet e
 
--- `mon` on a job's text and table, with at most `most` reads of its input: it is not started, or
+-- `mon` on a job's table, with at most `most` reads of its input: it is not started, or
 -- afterwards
-abbrev pub StopsMon : ℕ → Files → Exchange → (Written → Type 0) → List ℕ → Members → Halt
-    → Type 0
+abbrev pub StopsMon : ℕ → Files → Exchange → (Written → Type 0) → Members → Halt → Type 0
 StopsMon most files e wrote =
     StopsStarting command.Mon files (BeforeAll e wrote) (StopsWatched most files e wrote)

@@ -4,16 +4,17 @@ use Rattle.block_checker.specs.Bound.{bound_of, scalars_of}
 use Rattle.job_file.specs.Needs.{RunJob}
 use Rattle.job_reasons.specs.declared.job.Command.TheVariants as command
 use Rattle.sandbox_run.specs.Session.{open_fault}
-use Rattle.commands.specs.Did.{did_of}
-use Rattle.commands.specs.Ending.{stop_of_open}
+use Rattle.endings.specs.Did.{did_of}
+use Rattle.endings.specs.Ending.{stop_of_open}
 use Rattle.commands.specs.Files.{outs_of}
 use Rattle.file_store.specs.Store.{Files}
 use Rattle.commands.specs.Starts.{IsStarted, StopsStarting}
-use Rattle.commands.specs.Streams.{Change, Prints, Wrote}
+use Rattle.endings.specs.Streams.{Prints}
+use Rattle.commands.specs.Changes.{Change, Wrote}
 use Rattle.commands.specs.Trial.{StopsAtTrial, told_of, trial_from}
-use Rattle.commands.specs.Why.{ExplainsOpened}
+use Rattle.endings.specs.Why.{ExplainsRun}
 use Rattle.commands.specs.Words.{AcceptedView, Agnostic, Argument, Gains, Halt, Members, OpenError, start, Stop, Text, vlenb_of}
-use Rattle.commands.specs.declared.did.Did.{Did}
+use Rattle.endings.specs.declared.did.Did.{Did}
 use Rattle.commands.specs.declared.trial.Trial.{Trial}
 
 -- ---- a job's run
@@ -53,12 +54,6 @@ pub record Runs (files : Files) (registers : Bool) (table : Members) (c : Change
 
 -- ---- why it stops
 
--- why no run of an accepted image is opened, with the bound that its certificate states for these
--- arguments
-abbrev pub ExplainsRun : ℕ → AcceptedView → List Argument → Halt → Type 0
-ExplainsRun max a args =
-    ExplainsOpened a.certificate.parameters args (bound_of a (scalars_of args)) max
-
 -- after it was started: no run starts, or its outcome is not written or told
 abbrev pub StopsRan : Files → Bool → Change → RunJob Text → AcceptedView → List Argument → Halt
     → Type 0
@@ -66,7 +61,7 @@ StopsRan files registers c job accepted args =
     StopsAtTrial files c registers job.params (run_of_job job accepted args)
     (ExplainsRun job.max accepted args)
 
--- `run` on a job's text and table: it is not started, or afterwards
-abbrev pub StopsRun : Files → Bool → Change → List ℕ → Members → Halt → Type 0
+-- `run` on a job's table: it is not started, or afterwards
+abbrev pub StopsRun : Files → Bool → Change → Members → Halt → Type 0
 StopsRun files registers c =
     StopsStarting command.Run files (Wrote c) (StopsRan files registers c)

@@ -2,10 +2,10 @@
 -- `xs` were written.
 use Rattle.std.specs.Prelude.{◌≡◌, ◌⊎◌, [], Option, Some, None, Result, Ok, Err}
 use Rattle.job_file.specs.declared.values.JobError.TheVariants.{BadKey}
-use Rattle.commands.specs.Accepted.{IsOrWantAfter}
-use Rattle.commands.specs.Halt.{stop_of}
+use Rattle.endings.specs.Accepted.{IsOrWantAfter}
+use Rattle.endings.specs.Halt.{stop_of}
 use Rattle.commands.specs.Words.{Halt, Stop, Written}
-use Rattle.commands.specs.declared.stop.Stop.TheVariants as stop
+use Rattle.endings.specs.declared.stop.Stop.TheVariants as stop
 
 -- a step fails, before any file was written, or it comes to a value, and a later step stops
 abbrev pub StopsAt : {A : Type 0} → (Written → Type 0) → (Halt → Type 0) → (A → Type 0)

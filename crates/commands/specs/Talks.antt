@@ -9,10 +9,10 @@ use Rattle.monitor.specs.declared.commands.Flow.TheVariants as flow
 use Rattle.monitor.specs.declared.commands.MonError.{MonError}
 use Rattle.monitor.specs.declared.commands.MonError.TheVariants as error
 use Rattle.sandbox_run.specs.Session.{SessionView}
-use Rattle.commands.specs.Streams.{Exchange, IsCut, Prints, Stream}
-use Rattle.commands.specs.Texts.{monitor_error_name}
+use Rattle.endings.specs.Streams.{IsCut, Prints, Stream}
+use Rattle.commands.specs.Changes.{Exchange}
 use Rattle.commands.specs.Words.{Stop}
-use Rattle.commands.specs.declared.stop.Stop.TheVariants as stop
+use Rattle.endings.specs.declared.stop.Stop.TheVariants as stop
 
 -- a run, and the addresses at which it stops
 pub record Watch : Type 0 where
@@ -24,8 +24,17 @@ watch breakpoints session = record { breakpoints = breakpoints; session = sessio
 
 -- ---- one line
 
+-- the name of a command's error
+abbrev pub error_name : MonError → List ℕ
+error_name error.Unknown = codes "Unknown"
+error_name error.BadNumber = codes "BadNumber"
+error_name error.TooManyBreakpoints = codes "TooManyBreakpoints"
+error_name error.NotThere = codes "NotThere"
+error_name error.NoBytes = codes "NoBytes"
+error_name error.Write = codes "Write"
+
 abbrev pub error_line : MonError → List ℕ
-error_line error = codes "error: " ++ (monitor_error_name error ++ codes "\n")
+error_line error = codes "error: " ++ (error_name error ++ codes "\n")
 
 -- what is printed of a line: what its command tells of the run as it then stands, or its error
 abbrev pub answer_of : ℕ → Result Command MonError → SessionView → List ℕ

@@ -11,15 +11,15 @@ use Rattle.sandbox_run.specs.declared.outcome.Outcome.TheVariants as stopped
 use Rattle.machine.specs.declared.registers.Registers.{Registers}
 use Rattle.machine.specs.Run.{outcome}
 use Rattle.region_mem.specs.Digits.{digits_text}
-pub use Rattle.commands.specs.Accepted.{OrMemory}
+pub use Rattle.endings.specs.Accepted.{OrMemory}
 use Rattle.commands.specs.Files.{IsUnfinished}
 use Rattle.file_store.specs.Store.{Files}
-use Rattle.commands.specs.Halt.{stop_of}
+use Rattle.endings.specs.Halt.{stop_of}
 use Rattle.commands.specs.Steps.{StopsAt}
-use Rattle.commands.specs.Streams.{Change, Wrote}
+use Rattle.commands.specs.Changes.{Change, Wrote}
 use Rattle.commands.specs.Words.{Halt, Machine, Stop, Text}
-use Rattle.commands.specs.declared.trial.End.{End}
-use Rattle.commands.specs.declared.trial.End.TheVariants as end
+use Rattle.endings.specs.declared.stands.End.{End}
+use Rattle.endings.specs.declared.stands.End.TheVariants as end
 use Rattle.commands.specs.declared.trial.Trial.{Trial}
 
 -- how a run ended, after how many steps, and the arguments and the registers as they then stood

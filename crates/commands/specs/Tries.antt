@@ -17,19 +17,20 @@ use Rattle.region_mem.specs.declared.parameter.Param.{Param}
 use Rattle.region_mem.specs.declared.parameter.Param.TheVariants as parameter
 use Rattle.sandbox_run.specs.Answer.{last_pc}
 use Rattle.sandbox_run.specs.Errors.{open_error_of}
-use Rattle.commands.specs.Did.{did_of}
+use Rattle.endings.specs.Did.{did_of}
 use Rattle.commands.specs.Files.{ArePassed, IsImageAt, IsNoImageAt, IsUnpassed, outs_of}
 use Rattle.file_store.specs.Store.{Files}
-use Rattle.commands.specs.Halt.{stop_of}
-use Rattle.commands.specs.Stands.{stand_line, stand_text}
+use Rattle.endings.specs.Halt.{stop_of}
+use Rattle.endings.specs.Stands.{stand_line, stand_text}
 use Rattle.commands.specs.Steps.{StopsAt, StopsAtJob}
-use Rattle.commands.specs.Streams.{Change, Prints, Wrote}
+use Rattle.endings.specs.Streams.{Prints}
+use Rattle.commands.specs.Changes.{Change, Wrote}
 use Rattle.commands.specs.Trial.{StopsAtTrial, told_of, trial_from}
-use Rattle.commands.specs.Why.{ExplainsJob, ExplainsOpened}
+use Rattle.endings.specs.Why.{ExplainsOpened, ExplainsTable}
 use Rattle.commands.specs.Words.{Agnostic, Argument, Gains, Halt, ImageView, Machine, Members, start, Stop, Text, vlenb_of}
-use Rattle.commands.specs.declared.did.Did.{Did}
-use Rattle.commands.specs.declared.stands.Stand.{Stand}
-use Rattle.commands.specs.declared.stop.Stop.TheVariants as stop
+use Rattle.endings.specs.declared.did.Did.{Did}
+use Rattle.endings.specs.declared.stands.Stand.{Stand}
+use Rattle.endings.specs.declared.stop.Stop.TheVariants as stop
 use Rattle.commands.specs.declared.trial.Trial.{Trial}
 use Rattle.commands.specs.declared.tries.Tried.{Tried}
 
@@ -125,11 +126,11 @@ pub record Tries (files : Files) (registers : Bool) (table : Members) (c : Chang
 abbrev pub ExplainsTrial : TryJob Text → List Argument → Halt → Type 0
 ExplainsTrial job args = ExplainsOpened (params_for job.params args) args 0 job.max
 
--- `try` on a job's text and table: it asks for no job, the image or what is passed is not read, no
+-- `try` on a job's table: it asks for no job, the image or what is passed is not read, no
 -- run starts, or its outcome is not written or told
-abbrev pub StopsTry : Files → Bool → Change → List ℕ → Members → Halt → Type 0
-StopsTry files registers c text table =
-    StopsAtJob (Wrote c) (try_job_in table) (ExplainsJob command.Try text) (λ job.
+abbrev pub StopsTry : Files → Bool → Change → Members → Halt → Type 0
+StopsTry files registers c table =
+    StopsAtJob (Wrote c) (try_job_in table) (ExplainsTable command.Try table) (λ job.
     let params = map passed_by job.params in
     StopsAt (Wrote c) (IsNoImageAt files job.image) (IsImageAt files job.image) (λ image.
     StopsAt (Wrote c) (λ why. IsUnpassed files params (stop_of why)) (ArePassed files params)

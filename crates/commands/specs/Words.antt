@@ -1,21 +1,13 @@
 -- What several definitions here speak of.
-pub use Rattle.elf_image.specs.Image.{ImageView}
-pub use Rattle.elf_image.specs.declared.error.ElfError.{ElfError}
 pub use Rattle.vreg_groups.specs.VectorLength.{vlenb_of}
 pub use Rattle.vreg_groups.specs.declared.policies.Agnostic.{Agnostic}
-pub use Rattle.region_mem.specs.Parameter.{Argument}
-pub use Rattle.cert_note.specs.Certificate.{CertificateView}
-pub use Rattle.cert_note.specs.declared.refusals.CertError.{CertError}
 pub use Rattle.machine.specs.Machine.{Machine}
 pub use Rattle.machine.specs.Start.{start}
-pub use Rattle.sandbox_run.specs.declared.outcome.OpenError.{OpenError}
-pub use Rattle.block_checker.specs.Accepted.{AcceptedView}
-pub use Rattle.block_checker.specs.Passes.{Checked, block_at, checked}
-pub use Rattle.block_checker.specs.declared.errors.CheckError.{CheckError}
+pub use Rattle.block_checker.specs.Passes.{block_at}
 pub use Rattle.job_file.specs.Job.{Text}
-pub use Rattle.job_file.specs.declared.values.JobError.{JobError}
 pub use Rattle.toml.specs.Data.{Members}
-pub use Rattle.commands.specs.declared.halt.Halt.{Halt}
-pub use Rattle.commands.specs.declared.stop.Status.{Status}
-pub use Rattle.commands.specs.declared.stop.Stop.{Stop}
 pub use Rattle.file_store.specs.Written.{Gains, Held, Written}
+pub use Rattle.endings.specs.Words.{AcceptedView, Argument, CertificateView, CheckError, ElfError, ImageView, OpenError}
+pub use Rattle.endings.specs.declared.halt.Halt.{Halt}
+pub use Rattle.endings.specs.declared.stop.Status.{Status}
+pub use Rattle.endings.specs.declared.stop.Stop.{Stop}

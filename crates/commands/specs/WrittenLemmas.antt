@@ -7,13 +7,13 @@ use Rattle.job_file.specs.Job.{Text}
 use Rattle.job_file.specs.Needs.{run_param_lent}
 use Rattle.commands.specs.Files.{IsOfParam, IsPassed, IsOutWritten, IsUnpassed, IsUnwritten, out_file, outs_of}
 use Rattle.file_store.specs.Store.{files_of, Files}
-use Rattle.commands.specs.Ending.{IsOfFile}
+use Rattle.endings.specs.Ending.{IsOfFile}
 use Rattle.commands.specs.Words.{Argument}
 use Rattle.file_store.specs.Written.{Gains, Held, Written, gained}
 use Rattle.job_file.specs.declared.values.RunParam.{RunParam}
 use Rattle.job_file.specs.declared.values.RunParam.TheVariants as given
 use Rattle.region_mem.specs.declared.arguments.Arg.TheVariants as argument
-use Rattle.commands.specs.declared.stop.Stop.{Stop}
+use Rattle.endings.specs.declared.stop.Stop.{Stop}
 
 -- ---- what a store has
 

@@ -4,24 +4,24 @@ ghost use Rattle.std.specs.Prelude.{map, option_map, true};
 ghost use Rattle.job_file.specs.Needs.{run_param_lent};
 ghost use Rattle.toml.specs.Parse.{parse_document};
 ghost use Rattle.toml.specs.View.{table_view};
-ghost use Rattle.commands.specs.Accepted.{OrMemory};
-ghost use Rattle.commands.specs.Ending.{IsOfFile, stop_of_job};
+ghost use Rattle.endings.specs.Accepted.{OrMemory};
+ghost use Rattle.endings.specs.Ending.{IsOfFile};
 ghost use Rattle.commands.specs.Files.{ArePassed, AreWritten, IsImageAt, IsImageOfFirst};
-ghost use Rattle.commands.specs.Files.{IsJobAt, IsNoImageAt, IsNoTable, IsNoTableAt, IsOfParam};
+ghost use Rattle.commands.specs.Files.{IsNoImageAt, IsNoTable, IsNoTableAt, IsOfParam};
+ghost use Rattle.commands.specs.Files.{IsTableAt, IsTableOfFirst};
 ghost use Rattle.commands.specs.Files.{IsOutWritten, IsPassed};
 ghost use Rattle.commands.specs.Files.{IsUnpassed, IsWritten, image_in, out_file};
 ghost use Rattle.file_store.specs.Store.{files_of};
-ghost use Rattle.commands.specs.Halt.{bare};
+ghost use Rattle.endings.specs.Halt.{bare};
 ghost use Rattle.commands.specs.Files.{AreFirst, IsFirstOf};
 ghost use Rattle.file_store.specs.System.{IsFirst};
-ghost use Rattle.commands.specs.Why.{ExplainsImage};
+ghost use Rattle.endings.specs.Why.{ExplainsImage};
 
-use crate::halt::Halt;
-use crate::why::{bad_image, bad_job, stop_at};
 use elf_image::{ElfError, Image, MAX_FILE_SIZE};
+use endings::{Halt, bad_image, bad_text, stop_at};
 use file_store::Store;
-use job_file::{JobError, RunParam, parse};
-use job_reasons::Command;
+use job_file::RunParam;
+use job_reasons::table_in;
 use region_mem::{Arg, Args, Bytes, MAX_BUFFER_SIZE};
 use std::alloc::Global;
 use toml::Table;
@@ -59,45 +59,33 @@ fn read<'a, S: Store>(
     }
 }
 
-/// A job file: its text, and the table that it spells.
-#[derive(Drop)]
-pub struct JobFile {
-    pub text: Vec<u8>,
-    pub table: Table,
-}
-
-/// The job file at `path`, for a command.
+/// The table of the job file at `path`.
 pub fn read_table<'a, S: Store>(
     alloc: Global,
     path: &'a str,
-    command: Command,
     store: &mut S,
-) -> Result<JobFile, Halt<'a>>
+) -> Result<Table, Halt<'a>>
     ensures table { MatchResult result
-        (λ file. IsJobAt (files_of (S.held store.old)) path.entry.now file.text.items
-        (table_view file.table))
-        (IsNoTableAt command (files_of (S.held store.old)) path.entry.now) }
-    ensures first { IfOk result (λ file.
-        IsFirst (S.known store.old) path.entry.now (2 ^ 64 - 1) file.text.items) }
+        (λ table. IsTableAt (files_of (S.held store.old)) path.entry.now (table_view table))
+        (IsNoTableAt (files_of (S.held store.old)) path.entry.now) }
+    ensures first { IfOk result (λ table.
+        IsTableOfFirst (S.known store.old) path.entry.now (2 ^ 64 - 1) (table_view table)) }
     ensures files { S.held store.new ≡ S.held store.old }
     ensures known { S.known store.new ≡ S.known store.old }
 {
     let text = read(alloc, path, usize::MAX, store)?;
-    match table_in(alloc, text.as_slice()) {
-        Ok(table) => Ok(JobFile { text, table }),
-        Err(error) => Err(bad_job(alloc, text.as_slice(), command, error)),
-    }
+    table_of(alloc, text.as_slice())
 }
 
-/// The table that a text spells.
-fn table_in(alloc: Global, bytes: &[u8]) -> Result<Table, JobError>
+/// The table that the bytes of a job file spell.
+fn table_of<'a>(alloc: Global, bytes: &[u8]) -> Result<Table, Halt<'a>>
     ensures { MatchResult result
         (λ table. parse_document bytes.now ≡ Some (table_view table))
-        (λ error. IsNoTable bytes.now (stop_of_job error)) }
+        (IsNoTable bytes.now) }
 {
-    match std::str::from_utf8(bytes) {
-        Ok(text) => parse(alloc, text),
-        Err(_) => Err(JobError::NotToml),
+    match table_in(alloc, bytes) {
+        Ok(table) => Ok(table),
+        Err(reason) => Err(bad_text(alloc, reason)),
     }
 }
 

@@ -2,17 +2,16 @@
 ghost use Rattle.std.specs.Prelude.{◌≡◌, ◌≤◌, ◌+◌, ◌++◌, ◌∷◌, [], ℕ, List, IfErr, IfOk, OnOk};
 ghost use Rattle.monitor.specs.Commands.{order_of};
 ghost use Rattle.rv_listing.specs.Sinks.{IsPassedOn};
-ghost use Rattle.commands.specs.Halt.{stop_of};
+ghost use Rattle.endings.specs.Halt.{stop_of};
 ghost use Rattle.commands.specs.Mons.{IsOfInput, IsUnanswered};
-ghost use Rattle.commands.specs.Streams.{Prints, exchange, stream};
+ghost use Rattle.endings.specs.Streams.{Prints, stream};
+ghost use Rattle.commands.specs.Changes.{exchange};
 ghost use Rattle.file_store.specs.Sources.{source};
 ghost use Rattle.commands.specs.Talks.{GoesOver, IsAnswered, IsBroken, IsCutOff, IsDone, IsLine};
-ghost use Rattle.commands.specs.Talks.{Talks, answer_of, error_line, flow_after, watch};
-ghost use Rattle.commands.specs.declared.stop.Stop.TheVariants.{Memory};
+ghost use Rattle.commands.specs.Talks.{Talks, answer_of, error_line, error_name, flow_after, watch};
+ghost use Rattle.endings.specs.declared.stop.Stop.TheVariants.{Memory};
 
-use crate::halt::Halt;
-use crate::texts::monitor_error_name;
-use crate::why::stop_at;
+use endings::{Halt, stop_at};
 use file_store::{Source, StoreError};
 use monitor::{Flow, MonError, Monitor};
 use rv_listing::{Over, Piece, Stream, print, put_all};
@@ -20,13 +19,27 @@ use std::alloc::Global;
 use std::io;
 use std::io::ErrorKind;
 
+/// The name of an error of a command.
+fn error_name(error: MonError) -> &'static str
+    ensures { result.now ≡ error_name error }
+{
+    match error {
+        MonError::Unknown => "Unknown",
+        MonError::BadNumber => "BadNumber",
+        MonError::TooManyBreakpoints => "TooManyBreakpoints",
+        MonError::NotThere => "NotThere",
+        MonError::NoBytes => "NoBytes",
+        MonError::Write => "Write",
+    }
+}
+
 /// The line that tells the error of a command.
 fn error_line<'a>(alloc: Global, error: MonError) -> Result<Vec<u8>, Halt<'a>>
     ensures text { IfOk result (λ text. text.items ≡ error_line error) }
     ensures memory { IfErr result (λ halt. stop_of halt ≡ Memory) }
 {
     let mut text = Over::new(Vec::new(alloc));
-    let name = Piece::Text(monitor_error_name(error));
+    let name = Piece::Text(error_name(error));
     match put_all(
         &mut text,
         &[Piece::Text("error: "), name, Piece::Text("\n")],

@@ -2,33 +2,29 @@
 ghost use Rattle.std.specs.Prelude.{◌≡◌, Err, IfErr, IfOk, MatchResult, OnOk, length};
 ghost use Rattle.block_checker.specs.Accepted.{Passes};
 ghost use Rattle.cert_note.specs.Spelling.{spelling};
-ghost use Rattle.commands.specs.Accepted.{IsOrWant};
-ghost use Rattle.commands.specs.Ending.{Ends, PassesOn};
+ghost use Rattle.endings.specs.Accepted.{IsOrWant};
+ghost use Rattle.endings.specs.Ending.{Ends, PassesOn};
 ghost use Rattle.commands.specs.Files.{OfTable, StopsOfTable, image_in};
 ghost use Rattle.file_store.specs.Store.{files_of};
-ghost use Rattle.commands.specs.Halt.{bare};
+ghost use Rattle.endings.specs.Halt.{bare};
 ghost use Rattle.commands.specs.Makes.{AnswersBytes, ExplainsMaking, ExplainsReadBack, Makes};
 ghost use Rattle.commands.specs.Makes.{StopsMake, accepted_in, bytes_of, certificate_for};
 ghost use Rattle.commands.specs.Makes.{made_for, with_certificate};
 ghost use Rattle.commands.specs.Trial.{OrMemory};
-ghost use Rattle.commands.specs.Streams.{Wrote, change, stream};
-ghost use Rattle.commands.specs.Why.{ExplainsAttached, ExplainsLoop};
+ghost use Rattle.endings.specs.Streams.{stream};
+ghost use Rattle.commands.specs.Changes.{Wrote, change};
+ghost use Rattle.endings.specs.Why.{ExplainsAttached, ExplainsLoop};
 ghost use Rattle.rv_listing.specs.Sinks.{IsPassedOn};
 ghost use Rattle.toml.specs.View.{table_view};
 
-use crate::accepted::accept;
 use crate::checks::print_bound;
-use crate::did::Did;
 use crate::files::{image_in, read_image_file, write};
-use crate::halt::Halt;
-use crate::reasoned::boxed;
 use crate::starts::{on_table, taken};
-use crate::stop::Status;
-use crate::why::{not_attached, not_made};
 use block_checker::Accepted;
 use cert_maker::make_kept;
 use cert_note::Certificate;
 use elf_image::{Image, attach};
+use endings::{Did, Halt, Status, accept, boxed, not_attached, not_made};
 use file_store::Store;
 use job_file::{MakeJob, make_job_in};
 use job_reasons::Command;
@@ -72,21 +68,20 @@ pub fn make_image<'a, S: Store, O: Stream, E: Sink>(
         Ends explain
         (OfTable (files_of c.was) paths.entry.job.now (λ table.
         Makes (files_of c.was) paths.entry.image.now paths.entry.out.now table c))
-        (StopsOfTable Command.Make (files_of c.was) (Wrote c) paths.entry.job.now
+        (StopsOfTable (files_of c.was) (Wrote c) paths.entry.job.now
         (StopsMake (files_of c.was) c paths.entry.image.now paths.entry.out.now))
         (stream (E.contents errors.old) (E.failures errors.old))
         (stream (E.contents errors.new) (E.failures errors.new)) result }
     ensures passed { PassesOn result (O.passed output.new) (O.contents output.new) }
 {
-    on_table!(alloc, paths.job, Command::Make, explain, store, errors; table, text =>
-        make_table(alloc, table, text, paths, store, output))
+    on_table!(alloc, paths.job, explain, store, errors; table =>
+        make_table(alloc, table, paths, store, output))
 }
 
 /// `make` on a job's table.
 fn make_table<'a, S: Store, O: Stream>(
     alloc: Global,
     table: &Table,
-    text: &[u8],
     paths: MakePaths<'a>,
     store: &mut S,
     output: &mut O,
@@ -97,10 +92,10 @@ fn make_table<'a, S: Store, O: Stream>(
         MatchResult result
         (Makes (files_of c.was) paths.entry.image.now paths.entry.out.now (table_view table.now) c)
         (StopsMake (files_of c.was) c paths.entry.image.now paths.entry.out.now
-        text.now (table_view table.now)) }
+        (table_view table.now)) }
     ensures passed { OnOk result (IsPassedOn (O.passed output.new) (O.contents output.new)) }
 {
-    let job = taken(alloc, make_job_in(table), text, Command::Make)?;
+    let job = taken(alloc, make_job_in(table), table, Command::Make)?;
     let file = read_image_file(alloc, paths.image, store)?;
     let image = image_in(alloc, file.as_slice())?;
     let bytes = made(alloc, &job, file.as_slice(), &image)?;

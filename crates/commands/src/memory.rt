@@ -3,33 +3,33 @@ ghost use Rattle.std.specs.Prelude.{◌≡◌, ◌⊎◌, ◌++◌, List, Some, 
 ghost use Rattle.commands.specs.Corollary.{IsBoundOf, IsMadeOf, IsRunOf, IsTrialOf};
 ghost use Rattle.commands.specs.Checks.{Checks, StopsCheck};
 ghost use Rattle.commands.specs.Corollary.{IsWatchOf};
-ghost use Rattle.commands.specs.Ending.{Ends};
+ghost use Rattle.endings.specs.Ending.{Ends};
 ghost use Rattle.commands.specs.Files.{OfTable, StopsOfTable};
 ghost use Rattle.file_store.specs.Store.{bytes_at, files_of};
 ghost use Rattle.commands.specs.Makes.{Makes, StopsMake};
 ghost use Rattle.file_store.specs.Memory.{held_by};
 ghost use Rattle.commands.specs.Mons.{BeforeAll, Mons, StopsMon};
 ghost use Rattle.commands.specs.Runs.{Runs, StopsRun};
-ghost use Rattle.commands.specs.Streams.{Wrote, change, exchange, stream};
+ghost use Rattle.endings.specs.Streams.{stream};
+ghost use Rattle.commands.specs.Changes.{Wrote, change, exchange};
 ghost use Rattle.file_store.specs.Sources.{source};
 ghost use Rattle.commands.specs.Tries.{StopsTry, Tries};
 ghost use Rattle.file_store.specs.Written.{Gains};
 ghost use Rattle.file_store.specs.declared.store.TheConstants.{MOST_READS};
-ghost use Rattle.job_reasons.specs.declared.job.Command.TheVariants as command;
-ghost use Rattle.commands.specs.declared.stop.Status.TheVariants as status;
+ghost use Rattle.endings.specs.declared.stop.Status.TheVariants as status;
 
 use crate::checks::check_image;
 use crate::makes::{MakePaths, make_image};
 use crate::mons::mon_job;
 use crate::runs::run_job;
-use crate::stop::Status;
 use crate::tries::try_job;
+use endings::Status;
 use file_store::{Memory, Source};
 use rv_listing::Over;
 use std::alloc::Global;
 
-/// `check` over files in memory. What it prints is of the file at `path`, and no file changes. Why it stops is printed, with the
-/// explanation where it is to `explain`.
+/// `check` over files in memory. What it prints is of the file at `path`, and no file changes. Why it stops is printed, with
+/// the explanation where it is to `explain`.
 pub fn check_memory(
     alloc: Global,
     path: &str,
@@ -71,7 +71,7 @@ pub fn run_memory(
         (stream (Some output.new.writer.items) output.new.failures)) in
         Ends explain
         (OfTable (files_of c.was) path.now (λ table. Runs (files_of c.was) registers table c))
-        (StopsOfTable command.Run (files_of c.was) (Wrote c) path.now
+        (StopsOfTable (files_of c.was) (Wrote c) path.now
         (StopsRun (files_of c.was) registers c))
         (stream (Some errors.old.writer.items) errors.old.failures)
         (stream (Some errors.new.writer.items) errors.new.failures) result }
@@ -98,7 +98,7 @@ pub fn try_memory(
         (stream (Some output.new.writer.items) output.new.failures)) in
         Ends explain
         (OfTable (files_of c.was) path.now (λ table. Tries (files_of c.was) registers table c))
-        (StopsOfTable command.Try (files_of c.was) (Wrote c) path.now
+        (StopsOfTable (files_of c.was) (Wrote c) path.now
         (StopsTry (files_of c.was) registers c))
         (stream (Some errors.old.writer.items) errors.old.failures)
         (stream (Some errors.new.writer.items) errors.new.failures) result }
@@ -124,7 +124,7 @@ pub fn make_memory<'a>(
         Ends explain
         (OfTable (files_of c.was) paths.entry.job.now (λ table.
         Makes (files_of c.was) paths.entry.image.now paths.entry.out.now table c))
-        (StopsOfTable command.Make (files_of c.was) (Wrote c) paths.entry.job.now
+        (StopsOfTable (files_of c.was) (Wrote c) paths.entry.job.now
         (StopsMake (files_of c.was) c paths.entry.image.now paths.entry.out.now))
         (stream (Some errors.old.writer.items) errors.old.failures)
         (stream (Some errors.new.writer.items) errors.new.failures) result }
@@ -160,7 +160,7 @@ pub fn mon_memory<I: Source>(
         (OfTable (files_of (Some (held_by memory.old))) path.now (λ table.
         Mons (files_of (Some (held_by memory.old))) table e
         (Some (held_by memory.old)) (Some (held_by memory.new))))
-        (StopsOfTable command.Mon (files_of (Some (held_by memory.old))) (BeforeAll e wrote)
+        (StopsOfTable (files_of (Some (held_by memory.old))) (BeforeAll e wrote)
         path.now (StopsMon MOST_READS (files_of (Some (held_by memory.old))) e wrote))
         (stream (Some errors.old.writer.items) errors.old.failures)
         (stream (Some errors.new.writer.items) errors.new.failures) result }

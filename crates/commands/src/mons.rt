@@ -3,24 +3,22 @@ ghost use Rattle.std.specs.Prelude.{◌≡◌, ◌≤◌, ◌+◌, [], IfErr, Ma
 ghost use Rattle.rv_listing.specs.Sinks.{IsPassedOn};
 ghost use Rattle.toml.specs.View.{table_view};
 ghost use Rattle.vreg_groups.specs.VectorLength.{IsVlenb, vlenb_of};
-ghost use Rattle.commands.specs.Ending.{Ends, PassesOn};
+ghost use Rattle.endings.specs.Ending.{Ends, PassesOn};
 ghost use Rattle.commands.specs.Files.{OfTable, StopsOfTable};
 ghost use Rattle.file_store.specs.Store.{files_of};
-ghost use Rattle.commands.specs.Halt.{stop_of};
+ghost use Rattle.endings.specs.Halt.{stop_of};
 ghost use Rattle.commands.specs.Mons.{BeforeAll, IsStopped, IsUnanswered, Mons, StopsMon};
 ghost use Rattle.commands.specs.Mons.{StopsWatching};
-ghost use Rattle.commands.specs.Streams.{exchange, stream};
+ghost use Rattle.endings.specs.Streams.{stream};
+ghost use Rattle.commands.specs.Changes.{exchange};
 ghost use Rattle.file_store.specs.Sources.{source};
 ghost use Rattle.commands.specs.Talks.{AreTold, watch};
 ghost use Rattle.file_store.specs.Written.{Gains};
 
-use crate::did::Did;
 use crate::files::write_outs;
-use crate::halt::Halt;
 use crate::lines::answer_lines;
 use crate::starts::{Ready, Start, on_table, started};
-use crate::stop::Status;
-use crate::why::not_opened;
+use endings::{Did, Halt, Status, not_opened};
 use file_store::{MOST_READS, Source, Store};
 use job_reasons::Command;
 use monitor::Monitor;
@@ -58,7 +56,7 @@ pub fn mon_job<S: Store, I: Source, O: Stream, E: Sink>(
         Ends explain
         (OfTable (files_of (S.held store.old)) path.now (λ table.
         Mons (files_of (S.held store.old)) table e (S.held store.old) (S.held store.new)))
-        (StopsOfTable Command.Mon (files_of (S.held store.old)) (BeforeAll e wrote) path.now
+        (StopsOfTable (files_of (S.held store.old)) (BeforeAll e wrote) path.now
         (StopsMon MOST_READS (files_of (S.held store.old)) e wrote))
         (stream (E.contents errors.old) (E.failures errors.old))
         (stream (E.contents errors.new) (E.failures errors.new)) result }
@@ -71,8 +69,8 @@ pub fn mon_job<S: Store, I: Source, O: Stream, E: Sink>(
     )
 }
 
-/// As `mon_job`, with at most `reads` reads of the input. If none of them finds its end or the command `q`, it counts as one that
-/// failed.
+/// As `mon_job`, with at most `reads` reads of the input. If none of them finds its end or the command `q`, it counts as one
+/// that failed.
 pub fn mon_job_within<S: Store, I: Source, O: Stream, E: Sink>(
     alloc: Global,
     path: &str,
@@ -92,7 +90,7 @@ pub fn mon_job_within<S: Store, I: Source, O: Stream, E: Sink>(
         Ends explain
         (OfTable (files_of (S.held store.old)) path.now (λ table.
         Mons (files_of (S.held store.old)) table e (S.held store.old) (S.held store.new)))
-        (StopsOfTable Command.Mon (files_of (S.held store.old)) (BeforeAll e wrote) path.now
+        (StopsOfTable (files_of (S.held store.old)) (BeforeAll e wrote) path.now
         (StopsMon reads (files_of (S.held store.old)) e wrote))
         (stream (E.contents errors.old) (E.failures errors.old))
         (stream (E.contents errors.new) (E.failures errors.new)) result }
@@ -100,15 +98,14 @@ pub fn mon_job_within<S: Store, I: Source, O: Stream, E: Sink>(
     ensures passed { IsPassedOn (O.passed output.old) (O.contents output.old)
         → PassesOn result (O.passed output.new) (O.contents output.new) }
 {
-    on_table!(alloc, path, Command::Mon, explain, store, errors; table, text =>
-        mon_table(alloc, table, text, store, input, output, reads))
+    on_table!(alloc, path, explain, store, errors; table =>
+        mon_table(alloc, table, store, input, output, reads))
 }
 
 /// `mon` on a job's table.
 fn mon_table<'a, S: Store, I: Source, O: Stream>(
     alloc: Global,
     table: &'a Table,
-    text: &[u8],
     store: &mut S,
     input: &mut I,
     output: &mut O,
@@ -123,12 +120,12 @@ fn mon_table<'a, S: Store, I: Source, O: Stream>(
         (Mons (files_of (S.held store.old)) (table_view table.entry.now) e
         (S.held store.old) (S.held store.new))
         (StopsMon reads (files_of (S.held store.old)) e
-        (Gains (S.held store.old) (S.held store.new)) text.now (table_view table.entry.now)) }
+        (Gains (S.held store.old) (S.held store.new)) (table_view table.entry.now)) }
     ensures few { I.reads input.new ≤ I.reads input.old + reads }
     ensures passed { OnOk result (IsPassedOn (O.passed output.old) (O.contents output.old)
         → IsPassedOn (O.passed output.new) (O.contents output.new)) }
 {
-    let Start { ready, args } = started(alloc, table, text, Command::Mon, store)?;
+    let Start { ready, args } = started(alloc, table, Command::Mon, store)?;
     let kept = mon_accepted(alloc, &ready, args, input, output, reads)?;
     write_outs(alloc, &ready.job.params, &kept.places, store)?;
     Ok(Did::Done)

@@ -4,21 +4,20 @@ ghost use Rattle.job_file.specs.Needs.{run_job_lent};
 ghost use Rattle.rv_listing.specs.Sinks.{IsPassedOn};
 ghost use Rattle.toml.specs.View.{table_view};
 ghost use Rattle.vreg_groups.specs.VectorLength.{IsVlenb};
-ghost use Rattle.commands.specs.Ending.{Ends, PassesOn};
+ghost use Rattle.endings.specs.Ending.{Ends, PassesOn};
 ghost use Rattle.commands.specs.Files.{OfTable, StopsOfTable};
 ghost use Rattle.file_store.specs.Store.{files_of};
-ghost use Rattle.commands.specs.Halt.{bare};
-ghost use Rattle.commands.specs.Runs.{ExplainsRun, Runs, StopsRun, run_of_job, session_of};
-ghost use Rattle.commands.specs.Streams.{Wrote, change, stream};
+ghost use Rattle.endings.specs.Halt.{bare};
+ghost use Rattle.endings.specs.Why.{ExplainsRun};
+ghost use Rattle.commands.specs.Runs.{Runs, StopsRun, run_of_job, session_of};
+ghost use Rattle.endings.specs.Streams.{stream};
+ghost use Rattle.commands.specs.Changes.{Wrote, change};
 ghost use Rattle.commands.specs.Trial.{OrMemory};
-ghost use Rattle.commands.specs.declared.trial.End.TheVariants.{Ended};
+ghost use Rattle.endings.specs.declared.stands.End.TheVariants.{Ended};
 
-use crate::did::Did;
-use crate::halt::Halt;
 use crate::starts::{Ready, Start, on_table, started};
-use crate::stop::Status;
 use crate::trial::{Trial, finish};
-use crate::why::not_opened;
+use endings::{Did, Halt, Status, not_opened};
 use file_store::Store;
 use job_reasons::Command;
 use region_mem::Args;
@@ -51,21 +50,20 @@ pub fn run_job<S: Store, O: Stream, E: Sink>(
         (stream (O.contents output.new) (O.failures output.new))) in
         Ends explain
         (OfTable (files_of c.was) path.now (λ table. Runs (files_of c.was) registers table c))
-        (StopsOfTable Command.Run (files_of c.was) (Wrote c) path.now
+        (StopsOfTable (files_of c.was) (Wrote c) path.now
         (StopsRun (files_of c.was) registers c))
         (stream (E.contents errors.old) (E.failures errors.old))
         (stream (E.contents errors.new) (E.failures errors.new)) result }
     ensures passed { PassesOn result (O.passed output.new) (O.contents output.new) }
 {
-    on_table!(alloc, path, Command::Run, explain, store, errors; table, text =>
-        run_table(alloc, table, text, registers, store, output))
+    on_table!(alloc, path, explain, store, errors; table =>
+        run_table(alloc, table, registers, store, output))
 }
 
 /// `run` on a job's table.
 fn run_table<'a, S: Store, O: Stream>(
     alloc: Global,
     table: &'a Table,
-    text: &[u8],
     registers: bool,
     store: &mut S,
     output: &mut O,
@@ -75,10 +73,10 @@ fn run_table<'a, S: Store, O: Stream>(
         (stream (O.contents output.new) (O.failures output.new))) in
         MatchResult result
         (Runs (files_of c.was) registers (table_view table.entry.now) c)
-        (StopsRun (files_of c.was) registers c text.now (table_view table.entry.now)) }
+        (StopsRun (files_of c.was) registers c (table_view table.entry.now)) }
     ensures passed { OnOk result (IsPassedOn (O.passed output.new) (O.contents output.new)) }
 {
-    let Start { ready, args } = started(alloc, table, text, Command::Run, store)?;
+    let Start { ready, args } = started(alloc, table, Command::Run, store)?;
     let trial = run_accepted(alloc, &ready, args)?;
     let shown = trial.shown(alloc, registers)?;
     let params = &ready.job.params;

@@ -2,36 +2,27 @@
 ghost use Rattle.std.specs.Prelude.{◌≡◌, ◌++◌, IfErr, IfOk, IfSome, None, OnOk, false, map};
 ghost use Rattle.job_file.specs.Needs.{run_param_lent};
 ghost use Rattle.rv_listing.specs.Sinks.{IsPassedOn, Told};
-ghost use Rattle.commands.specs.Did.{did_of};
+ghost use Rattle.endings.specs.Did.{did_of};
 ghost use Rattle.commands.specs.Files.{IsUnfinished, outs_of};
 ghost use Rattle.file_store.specs.Store.{files_of};
-ghost use Rattle.commands.specs.Halt.{stop_of};
-ghost use Rattle.commands.specs.Stands.{stand_line, stand_text};
-ghost use Rattle.commands.specs.Streams.{Prints, change, stream};
+ghost use Rattle.endings.specs.Halt.{stop_of};
+ghost use Rattle.endings.specs.Stands.{stand_line, stand_text};
+ghost use Rattle.endings.specs.Streams.{Prints, stream};
+ghost use Rattle.commands.specs.Changes.{change};
 ghost use Rattle.commands.specs.Trial.{end_line, line_of, shown_of};
 ghost use Rattle.file_store.specs.Written.{Gains};
-ghost use Rattle.commands.specs.declared.stop.Stop.TheVariants.{Memory};
+ghost use Rattle.endings.specs.declared.stop.Stop.TheVariants.{Memory};
 
-use crate::did::{Did, stopped_at};
 use crate::files::write_outs;
-use crate::halt::Halt;
 use crate::registers::put_state;
-use crate::stands::{Stand, stand_of};
 use elf_image::Image;
+use endings::{Did, End, Halt, Stand, stand_of, stopped_at};
 use file_store::Store;
 use job_file::RunParam;
 use region_mem::{Args, Fault};
 use rv_listing::{Failed, Over, Piece, Sink, Stream, print, put_all};
 use sandbox_run::{Final, Registers};
 use std::alloc::Global;
-
-/// How a run ended.
-#[derive(Clone, Copy)]
-pub enum End {
-    Ended,
-    Trapped(Fault),
-    OutOfSteps,
-}
 
 /// What came of a run: how it ended, after how many steps, and the arguments and the registers as they then stood.
 /// A vector register has `vlenb` bytes.
@@ -135,8 +126,8 @@ impl Trial {
         print(output, shown)
     }
 
-    /// Where a run of the image stands as it ended, if that is `asked`, and memory suffices to tell it. Its last step was done at
-    /// `last`.
+    /// Where a run of the image stands as it ended, if that is `asked`, and memory suffices to tell it. Its last step was
+    /// done at `last`.
     pub fn stand(
         &self,
         alloc: Global,

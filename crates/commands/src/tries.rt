@@ -6,25 +6,22 @@ ghost use Rattle.toml.specs.View.{table_view};
 ghost use Rattle.machine.specs.Start.{start};
 ghost use Rattle.sandbox_run.specs.Answer.{last_pc, steps_of};
 ghost use Rattle.vreg_groups.specs.VectorLength.{IsVlenb};
-ghost use Rattle.commands.specs.Ending.{Ends, PassesOn};
+ghost use Rattle.endings.specs.Ending.{Ends, PassesOn};
 ghost use Rattle.commands.specs.Files.{OfTable, StopsOfTable};
 ghost use Rattle.file_store.specs.Store.{files_of};
-ghost use Rattle.commands.specs.Streams.{Wrote, change, stream};
+ghost use Rattle.endings.specs.Streams.{stream};
+ghost use Rattle.commands.specs.Changes.{Wrote, change};
 ghost use Rattle.commands.specs.Trial.{OrMemory, trial_at};
 ghost use Rattle.commands.specs.Tries.{ExplainsTrial, StopsTry, Tries, bare_tried, last_of};
 ghost use Rattle.commands.specs.Tries.{param_for, params_for, passed_by, passed_size, run_of};
 ghost use Rattle.commands.specs.Tries.{trial_of};
-ghost use Rattle.commands.specs.Why.{ExplainsOpened};
+ghost use Rattle.endings.specs.Why.{ExplainsOpened};
 
-use crate::did::Did;
 use crate::files::{read_args, read_image};
-use crate::halt::Halt;
-use crate::reasoned::boxed;
 use crate::starts::{on_table, taken};
-use crate::stop::Status;
-use crate::trial::{End, Trial, finish, trial_at};
-use crate::why::not_started;
+use crate::trial::{Trial, finish, trial_at};
 use elf_image::Image;
+use endings::{Did, End, Halt, Status, boxed, not_started};
 use file_store::Store;
 use job_file::{RunParam, TryJob, TryParam, try_job_in};
 use job_reasons::Command;
@@ -58,21 +55,20 @@ pub fn try_job<S: Store, O: Stream, E: Sink>(
         (stream (O.contents output.new) (O.failures output.new))) in
         Ends explain
         (OfTable (files_of c.was) path.now (λ table. Tries (files_of c.was) registers table c))
-        (StopsOfTable Command.Try (files_of c.was) (Wrote c) path.now
+        (StopsOfTable (files_of c.was) (Wrote c) path.now
         (StopsTry (files_of c.was) registers c))
         (stream (E.contents errors.old) (E.failures errors.old))
         (stream (E.contents errors.new) (E.failures errors.new)) result }
     ensures passed { PassesOn result (O.passed output.new) (O.contents output.new) }
 {
-    on_table!(alloc, path, Command::Try, explain, store, errors; table, text =>
-        try_table(alloc, table, text, explain, registers, store, output))
+    on_table!(alloc, path, explain, store, errors; table =>
+        try_table(alloc, table, explain, registers, store, output))
 }
 
 /// `try` on a job's table.
 fn try_table<'a, S: Store, O: Stream>(
     alloc: Global,
     table: &'a Table,
-    text: &[u8],
     explain: bool,
     registers: bool,
     store: &mut S,
@@ -83,10 +79,10 @@ fn try_table<'a, S: Store, O: Stream>(
         (stream (O.contents output.new) (O.failures output.new))) in
         MatchResult result
         (Tries (files_of c.was) registers (table_view table.entry.now) c)
-        (StopsTry (files_of c.was) registers c text.now (table_view table.entry.now)) }
+        (StopsTry (files_of c.was) registers c (table_view table.entry.now)) }
     ensures passed { OnOk result (IsPassedOn (O.passed output.new) (O.contents output.new)) }
 {
-    let job = taken(alloc, try_job_in(table), text, Command::Try)?;
+    let job = taken(alloc, try_job_in(table), table, Command::Try)?;
     let image = read_image(alloc, job.image, store)?;
     let passed = passed_params(&job.params);
     let args = read_args(alloc, &passed, store)?;

@@ -1,3 +1,4 @@
 pub mod Job
 pub mod Keys
 pub mod Needs
+pub mod Refusal

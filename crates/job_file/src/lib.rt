@@ -1,6 +1,7 @@
 //! Job files: the values of a TOML table, and what a subcommand takes of them.
 //!
-//! A text is parsed to a table (`parse`). The table's values are those of its keys, and each may be missing (`job_in`).
+//! A text is parsed to a table (`parse`, or `parse_kept` with what is known of a refusal). The table's values are those of
+//! its keys, and each may be missing (`job_in`).
 //! For a table that breaks a rule of job files, the answer is the key that does (`kept_job_in`).
 //! A subcommand has a struct of what it needs, in which nothing is missing (`try_job_in`, `run_job_in`, `make_job_in`).
 #![tactic(auto)]
@@ -12,21 +13,44 @@ ghost use Rattle.job_file.specs.Job.{IsTableFault, job_fields, job_lent, job_of,
 ghost use Rattle.job_file.specs.Job.{read_lent};
 ghost use Rattle.job_file.specs.Needs.{make_job_in, run_job_in, run_job_lent, try_job_in};
 ghost use Rattle.job_file.specs.Needs.{try_job_lent};
+ghost use Rattle.job_file.specs.Refusal.{IsTextRefusal};
 
 mod fields;
 mod keys;
 mod needs;
 mod params;
+mod refusal;
 mod values;
 
 pub use keys::{JobBreach, JobKey, JobTable};
+pub use refusal::TextRefusal;
 use std::alloc::Global;
 use toml::Table;
 pub use values::{
     Job, JobError, JobParam, MakeJob, RunJob, RunParam, RunnableJob, TryJob, TryParam,
 };
 
-/// The table of a job file.
+/// The table of a job file, or why its text has none, with what is known of that.
+///
+/// `TextRefusal::NotToml` comes exactly where the text is not TOML. `TextRefusal::NoMemory` comes only where an allocation
+/// was refused.
+pub fn parse_kept(alloc: Global, text: &str) -> Result<Table, TextRefusal>
+    ensures table { IfOk result (λ table. parse_document text.now ≡ Some (table_view table)) }
+    ensures refused { IfErr result (IsTextRefusal text.now) }
+{
+    match toml::table_from_str(alloc, text) {
+        Ok(table) => Ok(table),
+        Err(error) => match error.span() {
+            None => Err(TextRefusal::NoMemory),
+            Some(span) => Err(TextRefusal::NotToml {
+                byte: span.start,
+                cause: String::from_str(alloc, error.message()).ok(),
+            }),
+        },
+    }
+}
+
+/// The table of a job file: `parse_kept`, with the error alone.
 ///
 /// `JobError::NotToml` comes exactly where the text is not TOML. `JobError::NoMemory` comes only
 /// where an allocation was refused.
@@ -34,10 +58,9 @@ pub fn parse(alloc: Global, text: &str) -> Result<Table, JobError>
     ensures table { IfOk result (λ table. parse_document text.now ≡ Some (table_view table)) }
     ensures refused { IfErr result (IsTableFault text.now) }
 {
-    match toml::table_from_str(alloc, text) {
+    match parse_kept(alloc, text) {
         Ok(table) => Ok(table),
-        Err(error) if error.is_memory() => Err(JobError::NoMemory),
-        Err(_) => Err(JobError::NotToml),
+        Err(refusal) => Err(refusal.error()),
     }
 }
 

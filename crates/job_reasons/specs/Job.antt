@@ -139,26 +139,19 @@ next_column column byte =
 abbrev pub column_behind : List ℕ → ℕ
 column_behind bytes = fold next_column 1 bytes
 
--- a text has a table, and this is true of it
-abbrev pub IfTable : (Members → Type 0) → Option Members → Type 0
-IfTable True None = ⊥
-IfTable True (Some ms) = True ms
-
--- The reason for a job's text: where it is no UTF-8, where it is no TOML, or the reason for its
--- table. The cause is free, since the library states nothing of its words.
-abbrev pub IsJobReason : Command → List ℕ → Option JobReason → Type 0
-IsJobReason c text (Some (reason.NotUtf8 byte)) =
+-- The reason for bytes that spell no table: they are no UTF-8, or a text that is no TOML. The cause
+-- is free, since the library states nothing of its words. There is none where memory ran out over a
+-- text.
+abbrev pub IsTextReason : List ℕ → Option JobReason → Type 0
+IsTextReason text None = IsUtf8 text
+IsTextReason text (Some (reason.NotUtf8 byte)) =
     (byte ≡ utf8_valid_len text) × (¬ (IsUtf8 text))
-IsJobReason c text (Some (reason.NotToml line column byte cause)) = (parse_document text ≡ None)
+IsTextReason text (Some (reason.NotToml line column byte cause)) = (parse_document text ≡ None)
     × (line ≡ line_behind (take byte text)) × (column ≡ column_behind (take byte text))
     × (byte ≤ length text)
-IsJobReason c text (Some reason.Broken) =
-    IfTable (λ ms. IsTableReason c ms (Some reason.Broken)) (parse_document text)
-IsJobReason c text (Some (reason.Missing t k d)) =
-    IfTable (λ ms. IsTableReason c ms (Some (reason.Missing t k d))) (parse_document text)
-IsJobReason c text (Some (reason.Breach b)) =
-    IfTable (λ ms. IsTableReason c ms (Some (reason.Breach b))) (parse_document text)
-IsJobReason c text None = IfTable (λ ms. IsTableReason c ms None) (parse_document text)
+IsTextReason text (Some reason.Broken) = ⊥
+IsTextReason text (Some (reason.Missing t k d)) = ⊥
+IsTextReason text (Some (reason.Breach b)) = ⊥
 
 -- ---- the words
 

@@ -1,10 +1,11 @@
 //! Why a job is refused: where its text is no TOML, or which key the command lacks.
-ghost use Rattle.std.specs.Prelude.{◌≡◌, ◌<◌, ◌≤◌, ◌+◌, ◌^◌, IfOk, IfSome, Some};
+ghost use Rattle.std.specs.Prelude.{◌≡◌, ◌<◌, ◌≤◌, ◌+◌, ◌^◌, IfErr, IfOk, IfSome, Some};
 ghost use Rattle.std.specs.Prelude.{IfNone, length, map, take};
 ghost use Rattle.std.specs.Fmt.{WritesOnOk};
 ghost use Rattle.job_file.specs.Job.{breach_lent, job_lent, param_lent};
+ghost use Rattle.toml.specs.Parse.{parse_document};
 ghost use Rattle.toml.specs.View.{table_view};
-ghost use Rattle.job_reasons.specs.Job.{IsJobReason, IsTableReason, LackNone, breach_kept};
+ghost use Rattle.job_reasons.specs.Job.{IsTableReason, IsTextReason, LackNone, breach_kept};
 ghost use Rattle.job_reasons.specs.Job.{is_taken, job_lacks, lacked_of, make_lacks, param_lacks};
 ghost use Rattle.job_reasons.specs.Job.{place_lacks, run_lacks, try_lacks};
 ghost use Rattle.job_reasons.specs.Job.{begins_character, column_behind, line_behind, lines_in};
@@ -12,7 +13,7 @@ ghost use Rattle.job_reasons.specs.Job.{cause_text, next_column as next_column_o
 ghost use Rattle.job_reasons.specs.declared.job.JobReason.TheVariants as reason;
 
 use crate::escaped::Escaped;
-use job_file::{Job, JobBreach, JobKey, JobParam, JobTable, kept_job_in};
+use job_file::{Job, JobBreach, JobKey, JobParam, JobTable, TextRefusal, kept_job_in, parse_kept};
 use std::alloc::{AllocError, Global};
 use std::fmt;
 use toml::Table;
@@ -186,8 +187,11 @@ fn kept_breach(alloc: Global, breach: JobBreach<&str>) -> Result<JobBreach<Strin
     })
 }
 
-/// Why a job's table is refused.
-fn table_reason(
+/// Why a command takes no job of a table: `None` where it takes one.
+///
+/// # Errors
+/// An allocation was refused.
+pub fn table_reason(
     alloc: Global,
     command: Command,
     table: &Table,
@@ -286,30 +290,19 @@ fn told_place(text: &str, byte: usize, cause: Option<String>) -> JobReason
     }
 }
 
-/// Why a job is refused: `None` where the command takes it.
-///
-/// # Errors
-/// An allocation was refused.
-pub fn job_reason(
-    alloc: Global,
-    text: &[u8],
-    command: Command,
-) -> Result<Option<JobReason>, AllocError>
-    ensures { IfOk result (IsJobReason command text.now) }
+/// The table that the bytes of a job file spell, or the reason why they spell none. That is `None` where memory ran out.
+pub fn table_in(alloc: Global, bytes: &[u8]) -> Result<Table, Option<JobReason>>
+    ensures table { IfOk result (λ table. parse_document bytes.now ≡ Some (table_view table)) }
+    ensures refused { IfErr result (IsTextReason bytes.now) }
 {
-    let text = match str::from_utf8(text) {
+    let text = match str::from_utf8(bytes) {
         Ok(text) => text,
-        Err(error) => return Ok(Some(JobReason::NotUtf8(error.valid_up_to()))),
+        Err(error) => return Err(Some(JobReason::NotUtf8(error.valid_up_to()))),
     };
-    match toml::table_from_str(alloc, text) {
-        Ok(table) => table_reason(alloc, command, &table),
-        Err(error) => match error.span() {
-            None => Err(AllocError),
-            Some(span) => {
-                let cause = String::from_str(alloc, error.message()).ok();
-                Ok(Some(told_place(text, span.start, cause)))
-            }
-        },
+    match parse_kept(alloc, text) {
+        Ok(table) => Ok(table),
+        Err(TextRefusal::NotToml { byte, cause }) => Err(Some(told_place(text, byte, cause))),
+        Err(TextRefusal::NoMemory) => Err(None),
     }
 }
 

@@ -7,4 +7,4 @@ mod escaped;
 mod job;
 
 pub use escaped::Escaped;
-pub use job::{Command, JobReason, job_reason};
+pub use job::{Command, JobReason, table_in, table_reason};

@@ -1,10 +1,10 @@
 //! What a command line asks for.
 ghost use Rattle.std.specs.Prelude.{◌≡◌, ◌⊎◌, true, false};
 ghost use Rattle.rv_listing.specs.Sinks.{IsCounted};
-ghost use Rattle.commands.specs.Ending.{PassesOn};
-ghost use Rattle.commands.specs.Streams.{IsTold, stream};
-ghost use Rattle.commands.specs.Texts.{stop_text};
-ghost use Rattle.commands.specs.declared.stop.Stop.TheVariants as stop;
+ghost use Rattle.endings.specs.Ending.{PassesOn};
+ghost use Rattle.endings.specs.Streams.{IsTold, stream};
+ghost use Rattle.endings.specs.Texts.{stop_text};
+ghost use Rattle.endings.specs.declared.stop.Stop.TheVariants as stop;
 ghost use Rattle.command_line.specs.Asked.{is_request, status_of_line};
 ghost use Rattle.command_line.specs.declared.line.asked.LineError.TheVariants.{NoMemory};
 

@@ -1,15 +1,17 @@
 //! Why jobs are refused.
 use crate::tests::assertions::{assert_shows, found, given};
 use job_file::kept_job_in;
-use job_reasons::{Command, job_reason};
+use job_reasons::{Command, table_in, table_reason};
 
 /// A value out of its range, and a key that `make` needs alone.
 #[test]
 fn tells_a_key_of_a_job(rt: HostRuntime) {
-    let told = given!(rt; job_reason(rt.alloc(), b"vlen = 100", Command::Try));
+    let table = given!(rt; table_in(rt.alloc(), b"vlen = 100"));
+    let told = given!(rt; table_reason(rt.alloc(), Command::Try, &table));
     let expected = "  not as wanted: vlen in the job: 128, 256 or 512\n";
     assert_shows(rt, rt.alloc(), found!(rt; told), expected);
-    let none = given!(rt; job_reason(rt.alloc(), b"vlen = 128", Command::Make));
+    let other = given!(rt; table_in(rt.alloc(), b"vlen = 128"));
+    let none = given!(rt; table_reason(rt.alloc(), Command::Make, &other));
     assert!(rt; none.is_none());
 }
 

@@ -1,5 +1,5 @@
 use Rattle.std.proofs.Common.{None, inl, inr, refl}
-use Rattle.commands.specs.Accepted.{accepted_of}
+use Rattle.endings.specs.Accepted.{accepted_of}
 use Rattle.commands.proofs.CommandLemmas.{handed_on, want_ok}
 use Rattle.commands.specs.WrittenLemmas.{nothing}
 use Rattle.commands.proofs.checks.check_at.Goals as goal

@@ -2,7 +2,7 @@ use Rattle.std.proofs.Common.{rules, ◌+◌, refl}
 use Rattle.std.proofs.lemmas.Result.{err_from_is_err_and}
 use Rattle.commands.proofs.MonLemmas.{broken-step}
 use Rattle.commands.proofs.TalkLemmas.{goes-later, goes-none, goes-step}
-use Rattle.commands.specs.Streams.{stream}
+use Rattle.endings.specs.Streams.{stream}
 use Rattle.monitor.specs.declared.commands.Flow.TheVariants as flow
 use Rattle.commands.proofs.lines.answer_bytes.Goals as goal
 

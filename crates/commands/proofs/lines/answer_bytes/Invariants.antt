@@ -1,7 +1,7 @@
 use Rattle.std.proofs.Common.{◌≡◌, ◌++◌, take}
 use Rattle.monitor.specs.declared.commands.Flow.TheVariants as flow
 use Rattle.rv_listing.specs.Sinks.{IsPassedOn}
-use Rattle.commands.specs.Streams.{stream}
+use Rattle.endings.specs.Streams.{stream}
 use Rattle.commands.specs.Talks.{GoesOver, IsLine, watch}
 use Rattle.commands.proofs.lines.answer_bytes.Given as goal
 

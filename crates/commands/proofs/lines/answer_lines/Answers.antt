@@ -3,7 +3,7 @@ use Rattle.std.proofs.lemmas.Result.{err_from_is_err_and}
 use Rattle.std.specs.IoError.{error_kind}
 use Rattle.commands.proofs.MonLemmas.{unanswered-last, unanswered-on, unanswered-read}
 use Rattle.file_store.specs.SourceLemmas.{failed_unless, none_failed, one_failed, reads_more, reads_within, unfailed_if}
-use Rattle.commands.specs.Streams.{stream}
+use Rattle.endings.specs.Streams.{stream}
 use Rattle.file_store.specs.Sources.{is_failure}
 use Rattle.commands.proofs.TalkLemmas.{at-end, consumes-kept, consumes-none, goes-begin, read-end, reads-on, talks-last, talks-quit}
 use Rattle.commands.proofs.lines.answer_lines.Goals as goal

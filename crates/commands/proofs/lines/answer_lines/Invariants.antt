@@ -2,7 +2,7 @@ use Rattle.std.proofs.Common.{◌≡◌, ◌⊎◌, ◌+◌, ◌-◌, ◌^◌, �
 use Rattle.std.specs.Io.KnownBytes.{Consumes}
 use Rattle.monitor.specs.declared.commands.Flow.TheVariants as flow
 use Rattle.rv_listing.specs.Sinks.{IsPassedOn}
-use Rattle.commands.specs.Streams.{stream}
+use Rattle.endings.specs.Streams.{stream}
 use Rattle.commands.specs.Talks.{GoesOver, watch}
 use Rattle.commands.proofs.lines.answer_lines.Given as goal
 

@@ -2,9 +2,9 @@
 use Rattle.std.proofs.Common.{◌≡◌, Result, Ok, Err, length, subst, sym}
 use Rattle.std.proofs.lemmas.Result.{IfErr-weaker}
 use Rattle.cert_note.specs.Spelling.{spelling}
-use Rattle.commands.specs.Accepted.{OrMemory}
+use Rattle.endings.specs.Accepted.{OrMemory}
 use Rattle.commands.specs.Makes.{ExplainsMaking, certificate_for}
-use Rattle.commands.specs.Why.{ByStep, ExplainsAttached, ExplainsLoop}
+use Rattle.endings.specs.Why.{ByStep, ExplainsAttached, ExplainsLoop}
 use Rattle.commands.specs.Words.{CertificateView, Halt, Stop}
 use Rattle.commands.proofs.CommandLemmas.{or_ok}
 use Rattle.commands.proofs.makes.made.Goals as goal

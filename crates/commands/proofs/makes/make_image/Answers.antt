@@ -2,7 +2,8 @@ use Rattle.std.proofs.Common.{inl, inr, refl, Err, MatchResult, Option, subst}
 use Rattle.toml.specs.View.{table_view}
 use Rattle.file_store.specs.Store.{files_of}
 use Rattle.commands.specs.Makes.{Makes, StopsMake}
-use Rattle.commands.specs.Streams.{change, stream}
+use Rattle.endings.specs.Streams.{stream}
+use Rattle.commands.specs.Changes.{change}
 use Rattle.file_store.specs.Written.{Held}
 use Rattle.commands.proofs.CommandLemmas.{did_so, ends_as, ends_by}
 use Rattle.commands.specs.WrittenLemmas.{nothing}
@@ -14,10 +15,10 @@ returns-in-Ok-clause-ends g c =
     let old = (stream (g.O.Sink.contents c.args.output.now) (g.O.Sink.failures c.args.output.now)) in
     let new = (stream (g.O.Sink.contents c.make_table-done.new.output) (g.O.Sink.failures c.make_table-done.new.output)) in
     let came = subst (λ (h : Option Held). MatchResult c.make_table-done.result
-    (Makes (files_of h) c.args.paths.image.now c.args.paths.out.now (table_view c.in-Ok.file.table) (change h has old new))
-    (StopsMake (files_of h) (change h has old new) c.args.paths.image.now c.args.paths.out.now c.as_slice-text.result.now (table_view c.in-Ok.file.table)))
+    (Makes (files_of h) c.args.paths.image.now c.args.paths.out.now (table_view c.in-Ok.read) (change h has old new))
+    (StopsMake (files_of h) (change h has old new) c.args.paths.image.now c.args.paths.out.now (table_view c.in-Ok.read)))
     c.in-Ok.ensures.files c.make_table-done.ensures.done in
-    ends_by c.make_table-done.result _ _ c.ended.ensures.status c.ended.ensures.told came (λ did it. (table_view c.in-Ok.file.table, (c.in-Ok.file.text.items, c.in-Ok.ensures.table.0, c.in-Ok.ensures.table.1), it)) (λ why it. inr (c.as_slice-text.result.now, table_view c.in-Ok.file.table, rw (c.as_slice-text.ensures.value) c.in-Ok.ensures.table, it))
+    ends_by c.make_table-done.result _ _ c.ended.ensures.status c.ended.ensures.told came (λ did it. (table_view c.in-Ok.read, c.in-Ok.ensures.table, it)) (λ why it. inr (table_view c.in-Ok.read, c.in-Ok.ensures.table, it))
 
 pub returns-in-Err-clause-ends : goal.returns-in-Err-clause-ends
 returns-in-Err-clause-ends g c =

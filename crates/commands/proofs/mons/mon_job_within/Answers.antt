@@ -2,7 +2,8 @@ use Rattle.std.proofs.Common.{inl, inr, refl, Err, MatchResult, Option, subst}
 use Rattle.toml.specs.View.{table_view}
 use Rattle.file_store.specs.Store.{files_of}
 use Rattle.commands.specs.Mons.{Mons, StopsMon}
-use Rattle.commands.specs.Streams.{exchange, stream}
+use Rattle.endings.specs.Streams.{stream}
+use Rattle.commands.specs.Changes.{exchange}
 use Rattle.file_store.specs.Sources.{source}
 use Rattle.file_store.specs.Written.{Gains, Held}
 use Rattle.commands.proofs.CommandLemmas.{did_so, ends_as, ends_by}
@@ -14,9 +15,9 @@ returns-in-Ok-clause-ends g c =
     let has = g.S.Store.held c.mon_table-done.new.store in
     let e = (exchange (source (g.I.Source.remaining c.args.input.now) (g.I.Source.reads c.args.input.now) (g.I.Source.failures c.args.input.now)) (source (g.I.Source.remaining c.mon_table-done.new.input) (g.I.Source.reads c.mon_table-done.new.input) (g.I.Source.failures c.mon_table-done.new.input)) (stream (g.O.Sink.contents c.args.output.now) (g.O.Sink.failures c.args.output.now)) (stream (g.O.Sink.contents c.mon_table-done.new.output) (g.O.Sink.failures c.mon_table-done.new.output))) in
     let came = subst (λ (h : Option Held). MatchResult c.mon_table-done.result
-    (Mons (files_of h) (table_view c.in-Ok.file.table) e h has) (StopsMon c.args.reads (files_of h) e (Gains h has) c.as_slice-text.result.now (table_view c.in-Ok.file.table)))
+    (Mons (files_of h) (table_view c.in-Ok.read) e h has) (StopsMon c.args.reads (files_of h) e (Gains h has) (table_view c.in-Ok.read)))
     c.in-Ok.ensures.files c.mon_table-done.ensures.done in
-    ends_by c.mon_table-done.result _ _ c.ended.ensures.status c.ended.ensures.told came (λ did it. (table_view c.in-Ok.file.table, (c.in-Ok.file.text.items, c.in-Ok.ensures.table.0, c.in-Ok.ensures.table.1), it)) (λ why it. inr (c.as_slice-text.result.now, table_view c.in-Ok.file.table, rw (c.as_slice-text.ensures.value) c.in-Ok.ensures.table, it))
+    ends_by c.mon_table-done.result _ _ c.ended.ensures.status c.ended.ensures.told came (λ did it. (table_view c.in-Ok.read, c.in-Ok.ensures.table, it)) (λ why it. inr (table_view c.in-Ok.read, c.in-Ok.ensures.table, it))
 
 pub returns-in-Err-clause-ends : goal.returns-in-Err-clause-ends
 returns-in-Err-clause-ends g c =

@@ -2,8 +2,10 @@ use Rattle.std.proofs.Common.{rules, ◌≡◌, ◌∙◌, None, inl, refl}
 use Rattle.job_file.specs.Needs.{run_job_lent}
 use Rattle.file_store.specs.Store.{files_of}
 use Rattle.job_reasons.specs.declared.job.Command.TheVariants as command
-use Rattle.commands.specs.Runs.{ExplainsRun, StopsRan, run_of_job}
-use Rattle.commands.specs.Streams.{Wrote, change, stream}
+use Rattle.commands.specs.Runs.{StopsRan, run_of_job}
+use Rattle.endings.specs.Why.{ExplainsRun}
+use Rattle.endings.specs.Streams.{stream}
+use Rattle.commands.specs.Changes.{Wrote, change}
 use Rattle.commands.proofs.CommandLemmas.{finished, handed_on, stops_started, unshown, unstarted}
 use Rattle.commands.specs.WrittenLemmas.{nothing}
 use Rattle.commands.proofs.WhyLemmas.{memory_opened}
@@ -11,16 +13,16 @@ use Rattle.commands.proofs.runs.run_table.Goals as goal
 
 pub returns-in_err-ready-clause-done : goal.returns-in_err-ready-clause-done
 returns-in_err-ready-clause-done g c =
-    handed_on _ _ _ _ c.from_residual.ensures.1 (unstarted command.Run (files_of (g.S.Store.held c.args.store.now)) (Wrote (change (g.S.Store.held c.args.store.now) (g.S.Store.held c.started.new.store) (stream (g.O.Sink.contents c.args.output.now) (g.O.Sink.failures c.args.output.now)) (stream (g.O.Sink.contents c.args.output.now) (g.O.Sink.failures c.args.output.now)))) (StopsRan (files_of (g.S.Store.held c.args.store.now)) c.args.registers (change (g.S.Store.held c.args.store.now) (g.S.Store.held c.started.new.store) (stream (g.O.Sink.contents c.args.output.now) (g.O.Sink.failures c.args.output.now)) (stream (g.O.Sink.contents c.args.output.now) (g.O.Sink.failures c.args.output.now)))) _ _ _ c.in_err-ready.ensures.start (nothing _ _ c.in_err-ready.ensures.files, refl))
+    handed_on _ _ _ _ c.from_residual.ensures.1 (unstarted command.Run (files_of (g.S.Store.held c.args.store.now)) (Wrote (change (g.S.Store.held c.args.store.now) (g.S.Store.held c.started.new.store) (stream (g.O.Sink.contents c.args.output.now) (g.O.Sink.failures c.args.output.now)) (stream (g.O.Sink.contents c.args.output.now) (g.O.Sink.failures c.args.output.now)))) (StopsRan (files_of (g.S.Store.held c.args.store.now)) c.args.registers (change (g.S.Store.held c.args.store.now) (g.S.Store.held c.started.new.store) (stream (g.O.Sink.contents c.args.output.now) (g.O.Sink.failures c.args.output.now)) (stream (g.O.Sink.contents c.args.output.now) (g.O.Sink.failures c.args.output.now)))) _ _ c.in_err-ready.ensures.start (nothing _ _ c.in_err-ready.ensures.files, refl))
 
 pub returns-in_err-trial-clause-done : goal.returns-in_err-trial-clause-done
 returns-in_err-trial-clause-done g c =
-    handed_on _ _ _ _ c.from_residual-in_err-trial.ensures.1 (stops_started command.Run (files_of (g.S.Store.held c.args.store.now)) (Wrote (change (g.S.Store.held c.args.store.now) (g.S.Store.held c.started.new.store) (stream (g.O.Sink.contents c.args.output.now) (g.O.Sink.failures c.args.output.now)) (stream (g.O.Sink.contents c.args.output.now) (g.O.Sink.failures c.args.output.now)))) (StopsRan (files_of (g.S.Store.held c.args.store.now)) c.args.registers (change (g.S.Store.held c.args.store.now) (g.S.Store.held c.started.new.store) (stream (g.O.Sink.contents c.args.output.now) (g.O.Sink.failures c.args.output.now)) (stream (g.O.Sink.contents c.args.output.now) (g.O.Sink.failures c.args.output.now)))) _ _ _ _ _ _ c.in_ok-ready.ensures.start (inl ((c.in_err-trial.ensures.answer, c.in_err-trial.ensures.told), (nothing _ _ c.in_ok-ready.ensures.files, refl))))
+    handed_on _ _ _ _ c.from_residual-in_err-trial.ensures.1 (stops_started command.Run (files_of (g.S.Store.held c.args.store.now)) (Wrote (change (g.S.Store.held c.args.store.now) (g.S.Store.held c.started.new.store) (stream (g.O.Sink.contents c.args.output.now) (g.O.Sink.failures c.args.output.now)) (stream (g.O.Sink.contents c.args.output.now) (g.O.Sink.failures c.args.output.now)))) (StopsRan (files_of (g.S.Store.held c.args.store.now)) c.args.registers (change (g.S.Store.held c.args.store.now) (g.S.Store.held c.started.new.store) (stream (g.O.Sink.contents c.args.output.now) (g.O.Sink.failures c.args.output.now)) (stream (g.O.Sink.contents c.args.output.now) (g.O.Sink.failures c.args.output.now)))) _ _ _ _ _ c.in_ok-ready.ensures.start (inl ((c.in_err-trial.ensures.answer, c.in_err-trial.ensures.told), (nothing _ _ c.in_ok-ready.ensures.files, refl))))
 
 pub returns-in_err-shown-clause-done : goal.returns-in_err-shown-clause-done
 returns-in_err-shown-clause-done g c =
     let comes = unshown _ _ _ c.in_ok-trial.ensures.answer c.in_err-shown.ensures.memory in
-    handed_on _ _ _ _ c.from_residual-in_err-shown.ensures.1 (stops_started command.Run (files_of (g.S.Store.held c.args.store.now)) (Wrote (change (g.S.Store.held c.args.store.now) (g.S.Store.held c.started.new.store) (stream (g.O.Sink.contents c.args.output.now) (g.O.Sink.failures c.args.output.now)) (stream (g.O.Sink.contents c.args.output.now) (g.O.Sink.failures c.args.output.now)))) (StopsRan (files_of (g.S.Store.held c.args.store.now)) c.args.registers (change (g.S.Store.held c.args.store.now) (g.S.Store.held c.started.new.store) (stream (g.O.Sink.contents c.args.output.now) (g.O.Sink.failures c.args.output.now)) (stream (g.O.Sink.contents c.args.output.now) (g.O.Sink.failures c.args.output.now)))) _ _ _ _ _ _ c.in_ok-ready.ensures.start (inl ((comes, memory_opened _ _ _ _ _ c.in_err-shown.ensures.memory), (nothing _ _ c.in_ok-ready.ensures.files, refl))))
+    handed_on _ _ _ _ c.from_residual-in_err-shown.ensures.1 (stops_started command.Run (files_of (g.S.Store.held c.args.store.now)) (Wrote (change (g.S.Store.held c.args.store.now) (g.S.Store.held c.started.new.store) (stream (g.O.Sink.contents c.args.output.now) (g.O.Sink.failures c.args.output.now)) (stream (g.O.Sink.contents c.args.output.now) (g.O.Sink.failures c.args.output.now)))) (StopsRan (files_of (g.S.Store.held c.args.store.now)) c.args.registers (change (g.S.Store.held c.args.store.now) (g.S.Store.held c.started.new.store) (stream (g.O.Sink.contents c.args.output.now) (g.O.Sink.failures c.args.output.now)) (stream (g.O.Sink.contents c.args.output.now) (g.O.Sink.failures c.args.output.now)))) _ _ _ _ _ c.in_ok-ready.ensures.start (inl ((comes, memory_opened _ _ _ _ _ c.in_err-shown.ensures.memory), (nothing _ _ c.in_ok-ready.ensures.files, refl))))
 
 pub returns-clause-done : goal.returns-clause-done
 returns-clause-done g c =
@@ -40,4 +42,4 @@ returns-clause-done g c =
       told = told;
       done = done;
     })
-    (λ why. stops_started command.Run (files_of (g.S.Store.held c.args.store.now)) (Wrote left) (StopsRan (files_of (g.S.Store.held c.args.store.now)) c.args.registers left) _ _ _ _ _ _ c.in_ok-ready.ensures.start)
+    (λ why. stops_started command.Run (files_of (g.S.Store.held c.args.store.now)) (Wrote left) (StopsRan (files_of (g.S.Store.held c.args.store.now)) c.args.registers left) _ _ _ _ _ c.in_ok-ready.ensures.start)

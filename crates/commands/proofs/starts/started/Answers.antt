@@ -1,10 +1,10 @@
 use Rattle.std.proofs.Common.{◌≡◌, Option, Some, inl, inr, subst}
 use Rattle.job_file.specs.Needs.{run_job_in, run_job_lent}
 use Rattle.toml.specs.View.{table_view}
-use Rattle.commands.specs.Accepted.{accepted_of}
+use Rattle.endings.specs.Accepted.{accepted_of}
 use Rattle.commands.specs.Files.{IsUnpassed}
 use Rattle.file_store.specs.Store.{files_of}
-use Rattle.commands.specs.Halt.{stop_of}
+use Rattle.endings.specs.Halt.{stop_of}
 use Rattle.file_store.specs.Written.{Held}
 use Rattle.commands.proofs.CommandLemmas.{asked_for, handed_on, unasked, want_ok}
 use Rattle.commands.proofs.starts.started.Goals as goal

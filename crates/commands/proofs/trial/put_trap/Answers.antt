@@ -1,5 +1,5 @@
 -- What the fault carries is written in eight digits of base 16.
-use Rattle.commands.proofs.WordLemmas.{word_digits}
+use Rattle.endings.specs.WordLemmas.{word_digits}
 use Rattle.commands.proofs.trial.put_trap.Goals as goal
 
 pub returns : goal.returns

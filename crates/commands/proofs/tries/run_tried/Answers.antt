@@ -5,7 +5,7 @@ use Rattle.region_mem.specs.Parameter.{parameters_of}
 use Rattle.region_mem.specs.declared.parameter.Param.{Param}
 use Rattle.sandbox_run.specs.Answer.{last_pc}
 use Rattle.commands.specs.Tries.{params_for}
-use Rattle.commands.specs.Why.{ExplainsOpened}
+use Rattle.endings.specs.Why.{ExplainsOpened}
 use Rattle.commands.proofs.TrialLemmas.{parameters_given}
 use Rattle.commands.proofs.tries.run_tried.Goals as goal
 

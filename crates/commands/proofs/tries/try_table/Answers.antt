@@ -1,8 +1,8 @@
 use Rattle.std.proofs.Common.{rules, ◌≡◌, ◌∙◌, ℕ, IfSome, Option, Some, inl, inr, map, refl, subst}
 use Rattle.job_file.specs.Needs.{try_job_in, try_job_lent}
 use Rattle.toml.specs.View.{table_view}
-use Rattle.commands.specs.Stands.{stand_line, stand_text}
-use Rattle.commands.specs.Streams.{stream}
+use Rattle.endings.specs.Stands.{stand_line, stand_text}
+use Rattle.endings.specs.Streams.{stream}
 use Rattle.commands.specs.Tries.{ExplainsTrial, passed_by, trial_of}
 use Rattle.commands.proofs.CommandLemmas.{asked_for, finished, handed_on, passed_after, unasked, unpassed_after, unshown}
 use Rattle.commands.proofs.WhyLemmas.{memory_opened}

@@ -1,6 +1,0 @@
--- Want of memory has a status of its own.
-use Rattle.std.proofs.Common.{rules}
-use Rattle.commands.proofs.stop.Stop.status.Goals as goal
-
-pub returns-in-Memory : goal.returns-in-Memory
-returns-in-Memory c = search rules

@@ -1,0 +1,3 @@
+pub mod EndingLemmas
+pub mod EscapedLemmas
+pub mod WhyLemmas

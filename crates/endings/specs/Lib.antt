@@ -1,0 +1,11 @@
+pub mod Accepted
+pub mod Did
+pub mod Ending
+pub mod Halt
+pub mod Reasoned
+pub mod Stands
+pub mod Streams
+pub mod Texts
+pub mod Why
+pub mod WordLemmas
+pub mod Words
