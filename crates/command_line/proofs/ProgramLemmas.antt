@@ -154,4 +154,4 @@ asked_nothing files words (line_error.Usage error) e was has told tells s kept u
 asked_nothing files words line_error.NoMemory e was has told tells s kept unread fits came quiet memory none =
     let is : s ≡ status.Memory = memory_is s (came refl) in
     let line : IsTold told tells (stop_text stop.Memory ++ []) = rw (append-nil) (memory is) in
-    inl (record { came = Err halt.Memory; comes = (refl, kept, (unread, quiet refl)); status = is; told = ([], inr refl, line) })
+    inl (record { came = Err (halt.Plain stop.Memory); comes = (refl, kept, (unread, quiet refl)); status = is; told = ([], inr refl, line) })

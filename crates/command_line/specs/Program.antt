@@ -116,7 +116,7 @@ explains (Make paths explain) = explain
 abbrev pub IsAsAsked : Files → List Text → Exchange → Option Held → Option Held
     → Stream → Stream → Status → Type 0
 IsAsAsked files words e was has told tells s = fault_of app words ≡ []
-    → Ends false (λ done. ⊥) (λ why. (why ≡ halt.Memory) × (has ≡ was) × IsQuiet e) told tells s
+    → Ends false (λ done. ⊥) (λ why. (why ≡ halt.Plain stop.Memory) × (has ≡ was) × IsQuiet e) told tells s
     ⊎ ((line : Line) × IsLineOf words line × IsHeard line e
     × Ends (explains line) (Does files line e was has) (Stops files line e was has) told tells s)
 

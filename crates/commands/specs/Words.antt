@@ -9,5 +9,6 @@ pub use Rattle.toml.specs.Data.{Members}
 pub use Rattle.file_store.specs.Written.{Gains, Held, Written}
 pub use Rattle.endings.specs.Words.{AcceptedView, Argument, CertificateView, CheckError, ElfError, ImageView, OpenError}
 pub use Rattle.endings.specs.declared.halt.Halt.{Halt}
+pub use Rattle.endings.specs.declared.halt.Why.{Why}
 pub use Rattle.endings.specs.declared.stop.Status.{Status}
 pub use Rattle.endings.specs.declared.stop.Stop.{Stop}

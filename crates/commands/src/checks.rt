@@ -10,7 +10,7 @@ ghost use Rattle.commands.specs.Changes.{change};
 
 use crate::files::read_image;
 use cert_note::Budget;
-use endings::{Did, Halt, Status, accept, ended};
+use endings::{Did, Halt, Status, Stop, accept, ended};
 use file_store::Store;
 use rv_listing::{Failed, Piece, Sink, Stream, put_all};
 use std::alloc::Global;
@@ -57,7 +57,7 @@ fn check_at<'a, S: Store, O: Stream>(
     let budget = accept(alloc, image, None)?.budget();
     match print_bound(&budget, output) {
         Ok(()) => Ok(Did::Done),
-        Err(_) => Err(Halt::Output),
+        Err(_) => Err(Halt::Plain(Stop::Output)),
     }
 }
 

@@ -11,7 +11,7 @@ ghost use Rattle.commands.specs.Talks.{GoesOver, IsAnswered, IsBroken, IsCutOff,
 ghost use Rattle.commands.specs.Talks.{Talks, answer_of, error_line, error_name, flow_after, watch};
 ghost use Rattle.endings.specs.declared.stop.Stop.TheVariants.{Memory};
 
-use endings::{Halt, stop_at};
+use endings::{Halt, Stop, stop_at};
 use file_store::{Source, StoreError};
 use monitor::{Flow, MonError, Monitor};
 use rv_listing::{Over, Piece, Stream, print, put_all};
@@ -45,7 +45,7 @@ fn error_line<'a>(alloc: Global, error: MonError) -> Result<Vec<u8>, Halt<'a>>
         &[Piece::Text("error: "), name, Piece::Text("\n")],
     ) {
         Ok(()) => Ok(text.into_inner()),
-        Err(_) => Err(Halt::Memory),
+        Err(_) => Err(Halt::Plain(Stop::Memory)),
     }
 }
 
@@ -69,7 +69,7 @@ fn carried<'a, const VLENB: usize>(
     let mut text = Over::new(Vec::new(alloc));
     match monitor.command(line, &mut text) {
         Ok(flow) => Ok((flow, text.into_inner())),
-        Err(MonError::Write) => Err(Halt::Memory),
+        Err(MonError::Write) => Err(Halt::Plain(Stop::Memory)),
         Err(error) => Ok((Flow::Go, error_line(alloc, error)?)),
     }
 }
@@ -118,7 +118,7 @@ fn answer<'a, const VLENB: usize, O: Stream>(
     let (flow, text) = answered(alloc, monitor, line)?;
     match print(output, text.as_slice()) {
         Ok(()) => Ok(flow),
-        Err(_) => Err(Halt::Output),
+        Err(_) => Err(Halt::Plain(Stop::Output)),
     }
 }
 
@@ -149,7 +149,7 @@ fn answer_byte<'a, const VLENB: usize, O: Stream>(
     if byte != b'\n' {
         return match line.push(byte) {
             Ok(()) => Ok(Flow::Go),
-            Err(_) => Err(Halt::Memory),
+            Err(_) => Err(Halt::Plain(Stop::Memory)),
         };
     }
     let flow = answer(alloc, monitor, line.as_slice(), output)?;
@@ -244,5 +244,5 @@ pub fn answer_lines<'a, const VLENB: usize, I: Source, O: Stream>(
             Err(error) => return Err(unread(alloc, error)),
         }
     }
-    Err(Halt::File("-", None))
+    Err(Halt::Plain(Stop::File("-")))
 }

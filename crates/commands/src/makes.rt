@@ -24,11 +24,10 @@ use block_checker::Accepted;
 use cert_maker::make_kept;
 use cert_note::Certificate;
 use elf_image::{Image, attach};
-use endings::{Did, Halt, Status, accept, boxed, not_attached, not_made};
+use endings::{Did, Halt, Status, Stop, Why, accept, not_attached, not_made};
 use file_store::Store;
 use job_file::{MakeJob, make_job_in};
-use job_reasons::Command;
-use make_reasons::parameter_reason;
+use job_reasons::{Command, parameter_reason};
 use region_mem::Parameters;
 use rv_listing::{Sink, Stream};
 use std::alloc::Global;
@@ -103,7 +102,7 @@ fn make_table<'a, S: Store, O: Stream>(
     write(alloc, paths.out, bytes.as_slice(), store)?;
     match print_bound(&budget, output) {
         Ok(()) => Ok(Did::Done),
-        Err(_) => Err(Halt::Output),
+        Err(_) => Err(Halt::Plain(Stop::Output)),
     }
 }
 
@@ -113,7 +112,8 @@ fn certificate_for<'a>(alloc: Global, job: &MakeJob, image: &Image) -> Result<Ce
     ensures told { IfErr result (ExplainsLoop job.now.params image.now) }
 {
     let Some(parameters) = Parameters::new(job.params) else {
-        return Err(Halt::Parameters(boxed(alloc, parameter_reason(&job.params))));
+        let reason = parameter_reason(&job.params);
+        return Err(Halt::explained(alloc, Why::Parameters(reason)));
     };
     match make_kept(alloc, image, &parameters, job.vlen) {
         Ok(certificate) => Ok(certificate),

@@ -16,7 +16,7 @@ ghost use Rattle.endings.specs.declared.stop.Stop.TheVariants.{Memory};
 use crate::files::write_outs;
 use crate::registers::put_state;
 use elf_image::Image;
-use endings::{Did, End, Halt, Stand, stand_of, stopped_at};
+use endings::{Did, End, Halt, Stand, Stop, stand_of, stopped_at};
 use file_store::Store;
 use job_file::RunParam;
 use region_mem::{Args, Fault};
@@ -91,7 +91,7 @@ impl Trial {
         let mut text = Over::new(Vec::new(alloc));
         match put_state(&mut text, &self.registers, self.vlenb) {
             Ok(()) => Ok(text.into_inner()),
-            Err(_) => Err(Halt::Memory),
+            Err(_) => Err(Halt::Plain(Stop::Memory)),
         }
     }
 
@@ -205,6 +205,6 @@ pub fn finish<'a, S: Store, O: Stream>(
     write_outs(alloc, params, &trial.args.places, store)?;
     match trial.print(shown, output) {
         Ok(()) => Ok(trial.did(stand)),
-        Err(_) => Err(Halt::Output),
+        Err(_) => Err(Halt::Plain(Stop::Output)),
     }
 }

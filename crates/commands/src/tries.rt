@@ -21,11 +21,10 @@ use crate::files::{read_args, read_image};
 use crate::starts::{on_table, taken};
 use crate::trial::{Trial, finish, trial_at};
 use elf_image::Image;
-use endings::{Did, End, Halt, Status, boxed, not_started};
+use endings::{Did, End, Halt, Status, Why, not_started};
 use file_store::Store;
 use job_file::{RunParam, TryJob, TryParam, try_job_in};
-use job_reasons::Command;
-use make_reasons::parameter_reason;
+use job_reasons::{Command, parameter_reason};
 use region_mem::{Arg, Args, Param, Parameters};
 use rv_listing::{Sink, Stream};
 use sandbox_run::{Outcome, TriedRun, try_run_with_last};
@@ -125,7 +124,8 @@ fn run_tried<'a>(
 {
     let params = params_for(&job.params, &args.places);
     let Some(parameters) = Parameters::new(params) else {
-        return Err(Halt::Parameters(boxed(alloc, parameter_reason(&params))));
+        let reason = parameter_reason(&params);
+        return Err(Halt::explained(alloc, Why::Parameters(reason)));
     };
     match job.vlen {
         Vlen::V128 => run::<16>(alloc, job, image, &parameters, args),
@@ -191,7 +191,7 @@ fn run<'a, const VLENB: usize>(
             trial: trial_after(outcome),
             last,
         }),
-        Err((error, args)) => Err(not_started(parameters, &args, 0, job.max, error)),
+        Err((error, args)) => Err(not_started(alloc, parameters, &args, 0, job.max, error)),
     }
 }
 

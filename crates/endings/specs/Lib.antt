@@ -2,7 +2,6 @@ pub mod Accepted
 pub mod Did
 pub mod Ending
 pub mod Halt
-pub mod Reasoned
 pub mod Stands
 pub mod Streams
 pub mod Texts

@@ -10,5 +10,6 @@ pub use Rattle.block_checker.specs.Passes.{Checked, checked}
 pub use Rattle.block_checker.specs.declared.errors.CheckError.{CheckError}
 pub use Rattle.job_file.specs.declared.values.JobError.{JobError}
 pub use Rattle.endings.specs.declared.halt.Halt.{Halt}
+pub use Rattle.endings.specs.declared.halt.Why.{Why}
 pub use Rattle.endings.specs.declared.stop.Status.{Status}
 pub use Rattle.endings.specs.declared.stop.Stop.{Stop}

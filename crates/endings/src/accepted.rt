@@ -6,6 +6,7 @@ ghost use Rattle.endings.specs.Halt.{bare};
 ghost use Rattle.endings.specs.Why.{ExplainsAccepted, ExplainsCertificate};
 
 use crate::halt::Halt;
+use crate::stop::Stop;
 use crate::why::{bad_certificate, not_accepted};
 use block_checker::{Accepted, check_kept};
 use cert_note::{Certificate, read_kept};
@@ -19,7 +20,7 @@ fn certificate_in<'a>(alloc: Global, image: &Image) -> Result<Certificate, Halt<
     ensures told { IfErr result (ExplainsCertificate image.now.certificate) }
 {
     let Some(bytes) = image.certificate() else {
-        return Err(Halt::NoCertificate);
+        return Err(Halt::Plain(Stop::NoCertificate));
     };
     match read_kept(alloc, bytes) {
         Ok(certificate) => Ok(certificate),

@@ -1,9 +1,9 @@
 //! Why a subcommand stops, and the explanation of that: the error in a sentence, and the lines of its reason.
 ghost use Rattle.std.specs.Prelude.{◌≡◌};
-ghost use Rattle.endings.specs.Halt.{error_of, stop_of};
-ghost use Rattle.endings.specs.declared.halt.Halt.TheVariants.{Memory};
+ghost use Rattle.endings.specs.Halt.{IfExplained, error_of, stop_of, stop_of_why};
+ghost use Rattle.endings.specs.declared.halt.Halt.TheVariants.{Plain};
+ghost use Rattle.endings.specs.declared.stop.Stop.TheVariants.{Memory};
 
-use crate::reasoned::Reasoned;
 use crate::stop::Stop;
 use block_checker::CheckError;
 use cert_maker::MakeError;
@@ -12,47 +12,46 @@ use check_reasons::CheckReason;
 use elf_image::ElfError;
 use explanations::{CertificateReason, ImageReason, Refusal};
 use job_file::JobError;
-use job_reasons::JobReason;
-use make_reasons::{LoopReason, MakeReason};
-use open_reasons::OpenReason;
+use job_reasons::{JobReason, LoopReason, MakeReason, OpenReason};
 use sandbox_run::OpenError;
-use std::alloc::AllocError;
+use std::alloc::{AllocError, Global};
 use std::fmt;
 
-/// Why a subcommand stops, and the explanation of that. It shows the explanation, which is nothing where it takes memory that
-/// ran out.
+/// Why a subcommand stops, with what explains it, where memory sufficed to keep that. It shows the explanation.
 #[derive(Drop)]
 pub enum Halt<'a> {
+    /// No more is kept than the reason to stop.
+    Plain(Stop<'a>),
+    /// What explains the reason to stop. It stands on the heap, so that an answer with it is small.
+    Explained(Box<Why<'a>>),
+}
+
+/// What explains a reason to stop. It shows the error's text on a line of its own, where there is an error, and then the
+/// reason's lines.
+#[derive(Drop)]
+pub enum Why<'a> {
     /// A job is refused for this reason.
-    Job(Box<JobReason>),
-    /// A job is refused, and memory ran out where it was to be told why.
-    UntoldJob(JobError),
-    /// The parameters of a job are refused, for this reason where memory sufficed to keep it.
-    Parameters(Option<Box<MakeReason>>),
-    /// The file at the path was not read or not written, and the line has what the system says of it, if it says anything.
-    File(&'a str, Option<String>),
+    Job(JobReason),
+    /// The parameters of a job are refused for this reason.
+    Parameters(MakeReason),
+    /// The file at the path was not read or not written, and the line has what the system says of it.
+    File(&'a str, String),
     /// A file is no image.
-    Image(Reasoned<ElfError, ImageReason>),
+    Image(Refusal<ElfError, ImageReason>),
     /// No certificate is attached to an image.
-    Attach(Reasoned<ElfError, MakeReason>),
-    /// An image has no certificate.
-    NoCertificate,
+    Attach(Refusal<ElfError, MakeReason>),
     /// Bytes are no certificate.
-    Certificate(Reasoned<CertError, CertificateReason>),
+    Certificate(Refusal<CertError, CertificateReason>),
     /// The check refuses an image with its certificate.
-    Check(Reasoned<CheckError, CheckReason>),
+    Check(Refusal<CheckError, CheckReason>),
     /// No certificate is made of an image.
-    Make(Reasoned<MakeError, LoopReason>),
+    Make(Refusal<MakeError, LoopReason>),
     /// No run is opened.
     Open(Refusal<OpenError, OpenReason>),
-    /// Memory ran out.
-    Memory,
-    /// Standard output took no text.
-    Output,
 }
 
 /// The error of a job that is refused for a reason.
-pub fn error_of(reason: &JobReason) -> JobError
+fn error_of(reason: &JobReason) -> JobError
     ensures { result ≡ error_of reason.now }
 {
     match reason {
@@ -61,34 +60,75 @@ pub fn error_of(reason: &JobReason) -> JobError
     }
 }
 
+impl<'a> Why<'a> {
+    /// The reason to stop that it explains.
+    fn stop(&self) -> Stop<'a>
+        ensures { result ≡ stop_of_why self.now }
+    {
+        match self {
+            Why::Job(reason) => Stop::Job(error_of(reason)),
+            Why::Parameters(_) => Stop::Job(JobError::BadKey),
+            Why::File(path, _) => Stop::File(*path),
+            Why::Image(told) => Stop::Image(told.error),
+            Why::Attach(told) => Stop::Image(told.error),
+            Why::Certificate(told) => Stop::Certificate(told.error),
+            Why::Check(told) => Stop::Check(told.error),
+            Why::Make(told) => Stop::Make(told.error),
+            Why::Open(told) => Stop::Open(told.error),
+        }
+    }
+}
+
 impl<'a> Halt<'a> {
+    /// The reason to stop that this explains, with it where memory suffices to keep it.
+    pub fn explained(alloc: Global, why: Why<'a>) -> Halt<'a>
+        ensures stop { stop_of result ≡ stop_of_why why.entry }
+        ensures kept { IfExplained result (λ kept. kept ≡ why.entry) }
+    {
+        let stop = why.stop();
+        match Box::new(alloc, why) {
+            Ok(kept) => Halt::Explained(kept),
+            Err(_) => Halt::Plain(stop),
+        }
+    }
+
     /// The reason to stop alone.
     pub fn stop(&self) -> Stop<'a>
         ensures { result ≡ stop_of self.now }
     {
         match self {
-            Halt::Job(reason) => Stop::Job(error_of(reason.as_ref())),
-            Halt::UntoldJob(error) => Stop::Job(*error),
-            Halt::Parameters(_) => Stop::Job(JobError::BadKey),
-            Halt::File(path, _) => Stop::File(*path),
-            Halt::Image(why) => Stop::Image(why.error),
-            Halt::Attach(why) => Stop::Image(why.error),
-            Halt::NoCertificate => Stop::NoCertificate,
-            Halt::Certificate(why) => Stop::Certificate(why.error),
-            Halt::Check(why) => Stop::Check(why.error),
-            Halt::Make(why) => Stop::Make(why.error),
-            Halt::Open(refusal) => Stop::Open(refusal.error),
-            Halt::Memory => Stop::Memory,
-            Halt::Output => Stop::Output,
+            Halt::Plain(stop) => *stop,
+            Halt::Explained(why) => why.stop(),
         }
     }
 }
 
 impl From<AllocError> for Halt<'_> {
-    ghost from_gives = { λ _ halt. halt ≡ Memory };
+    ghost from_gives = { λ _ halt. halt ≡ Plain Memory };
 
     fn from(_error: AllocError) -> Self {
-        Halt::Memory
+        Halt::Plain(Stop::Memory)
+    }
+}
+
+impl fmt::Display for Why<'_> {
+    ghost use Rattle.std.specs.Prelude.{Some};
+    ghost use Rattle.endings.specs.Halt.{why_text};
+
+    ghost output = { λ why. Some (why_text why) };
+
+    fn fmt<W: fmt::Write>(&self, f: &mut fmt::Formatter<W>) -> fmt::Result {
+        match self {
+            Why::Job(reason) => write!(f, "{reason}"),
+            Why::Parameters(reason) => write!(f, "{reason}"),
+            Why::File(_, line) => write!(f, "{line}"),
+            Why::Image(told) => write!(f, "{told}"),
+            Why::Attach(told) => write!(f, "{told}"),
+            Why::Certificate(told) => write!(f, "{told}"),
+            Why::Check(told) => write!(f, "{told}"),
+            Why::Make(told) => write!(f, "{told}"),
+            Why::Open(told) => write!(f, "{told}"),
+        }
     }
 }
 
@@ -100,24 +140,24 @@ impl fmt::Display for Halt<'_> {
 
     fn fmt<W: fmt::Write>(&self, f: &mut fmt::Formatter<W>) -> fmt::Result {
         match self {
-            Halt::Job(reason) => write!(f, "{reason}"),
-            Halt::Parameters(None) => Ok(()),
-            Halt::Parameters(Some(reason)) => write!(f, "{reason}"),
-            Halt::File(_, None) => Ok(()),
-            Halt::File(_, Some(line)) => write!(f, "{line}"),
-            Halt::Image(why) => write!(f, "{why}"),
-            Halt::Attach(why) => write!(f, "{why}"),
-            Halt::NoCertificate => {
+            Halt::Plain(Stop::NoCertificate) => {
                 writeln!(
                     f,
                     "  wanted: a certificate in a note of the image, as `make` writes it"
                 )
             }
-            Halt::Certificate(why) => write!(f, "{why}"),
-            Halt::Check(why) => write!(f, "{why}"),
-            Halt::Make(why) => write!(f, "{why}"),
-            Halt::Open(refusal) => write!(f, "{refusal}"),
-            Halt::UntoldJob(_) | Halt::Memory | Halt::Output => Ok(()),
+            Halt::Plain(
+                Stop::Job(_)
+                | Stop::File(_)
+                | Stop::Image(_)
+                | Stop::Certificate(_)
+                | Stop::Check(_)
+                | Stop::Make(_)
+                | Stop::Open(_)
+                | Stop::Memory
+                | Stop::Output,
+            ) => Ok(()),
+            Halt::Explained(why) => write!(f, "{why}"),
         }
     }
 }

@@ -1,8 +1,8 @@
 //! How a subcommand ends: with what it did, or with a reason to stop; the words for both, and the status.
 //!
 //! - `stop` has the statuses and the reasons to stop. `texts` and `escapes` have the words for these.
-//! - `halt` has a reason to stop with its explanation, `reasoned` an error with its own, and `why` makes them from what a
-//!   subcommand stops at. `accepted` has an image with its certificate, or why it is not accepted.
+//! - `halt` has a reason to stop with its explanation, and `why` makes both from what a subcommand stops at. `accepted` has an
+//!   image with its certificate, or why it is not accepted.
 //! - `did` has what was done, `stands` how a run ended and where it stopped.
 #![tactic(auto)]
 
@@ -10,7 +10,6 @@ mod accepted;
 mod did;
 mod escapes;
 mod halt;
-mod reasoned;
 mod stands;
 mod stop;
 mod texts;
@@ -18,8 +17,7 @@ mod why;
 
 pub use accepted::accept;
 pub use did::{Did, stopped_at};
-pub use halt::Halt;
-pub use reasoned::{Reasoned, boxed};
+pub use halt::{Halt, Why};
 pub use stands::{Cause, End, Place, Stand, stand_of};
 pub use stop::{Status, Stop, ended};
 pub use why::{

@@ -53,7 +53,7 @@ impl Status {
 }
 
 /// Why the program ends before all is done. A line on standard error tells it.
-#[derive(Debug, Drop)]
+#[derive(Clone, Copy)]
 pub enum Stop<'a> {
     /// The job file spells no job.
     Job(JobError),

@@ -5,17 +5,17 @@ ghost use Rattle.block_checker.specs.Explained.{IsStopped};
 ghost use Rattle.endings.specs.Ending.{stop_at_file, stop_of_certificate, stop_of_check};
 ghost use Rattle.endings.specs.Ending.{stop_of_image, stop_of_make, stop_of_open, stop_of_text};
 ghost use Rattle.cert_note.specs.Reading.{IsRefusal};
-ghost use Rattle.endings.specs.Halt.{error_of, stop_of};
+ghost use Rattle.endings.specs.Halt.{stop_of};
 ghost use Rattle.cert_maker.specs.Refusal.{error_of as error_of_make};
 ghost use Rattle.endings.specs.Why.{ExplainsAttached, ExplainsCertificate, ExplainsCheck};
 ghost use Rattle.endings.specs.Why.{ExplainsOpened, ExplainsRun, ExplainsTable};
-ghost use Rattle.endings.specs.Why.{TellsImage, TellsJob, TellsLoop, TellsText};
+ghost use Rattle.endings.specs.Why.{TellsImage, TellsLoop, TellsText};
 ghost use Rattle.job_file.specs.declared.values.JobError.TheVariants.{BadKey};
 ghost use Rattle.toml.specs.View.{table_view};
 ghost use Rattle.endings.specs.declared.stop.Stop.TheVariants.{Job};
 
-use crate::halt::{Halt, error_of};
-use crate::reasoned::{Reasoned, boxed};
+use crate::halt::{Halt, Why};
+use crate::stop::Stop;
 use block_checker::{Accepted, CheckError, Refused};
 use cert_maker::MakeRefusal;
 use cert_note::{CertError, CertRefusal};
@@ -24,9 +24,7 @@ use elf_image::{ElfError, ElfRefusal, Image};
 use explanations::{ImageReason, Refusal, refusal_reason};
 use file_store::StoreError;
 use job_file::JobError;
-use job_reasons::{Command, JobReason, table_reason};
-use make_reasons::{attach_reason, loop_reason};
-use open_reasons::open_reason;
+use job_reasons::{Command, JobReason, attach_reason, loop_reason, open_reason, table_reason};
 use region_mem::{Arg, Args, Param, Parameters};
 use sandbox_run::OpenError;
 use std::alloc::Global;
@@ -57,8 +55,11 @@ pub fn stop_at<'a>(
     ensures { stop_of result ≡ stop_at_file error path.entry }
 {
     match error {
-        StoreError::Failed => Halt::File(path, said(alloc, says)),
-        StoreError::NoMemory => Halt::Memory,
+        StoreError::Failed => match said(alloc, says) {
+            Some(line) => Halt::explained(alloc, Why::File(path, line)),
+            None => Halt::Plain(Stop::File(path)),
+        },
+        StoreError::NoMemory => Halt::Plain(Stop::Memory),
     }
 }
 
@@ -69,9 +70,10 @@ pub fn bad_image<'a>(alloc: Global, refusal: ElfRefusal) -> Halt<'a>
 {
     let ElfRefusal { error, evidence } = refusal;
     if let ElfError::NoMemory = error {
-        Halt::Memory
+        Halt::Plain(Stop::Memory)
     } else {
-        Halt::Image(Reasoned::new(alloc, error, ImageReason(evidence)))
+        let reason = ImageReason(evidence);
+        Halt::explained(alloc, Why::Image(Refusal { error, reason }))
     }
 }
 
@@ -87,10 +89,10 @@ pub fn not_attached<'a>(
     ensures told { ExplainsAttached file.now image.now.certificate size result }
 {
     if let ElfError::NoMemory = error {
-        Halt::Memory
+        Halt::Plain(Stop::Memory)
     } else {
         let reason = attach_reason(file, image, size, error);
-        Halt::Attach(Reasoned::new(alloc, error, reason))
+        Halt::explained(alloc, Why::Attach(Refusal { error, reason }))
     }
 }
 
@@ -102,10 +104,10 @@ pub fn bad_certificate<'a>(alloc: Global, bytes: &[u8], refusal: CertRefusal) ->
 {
     let error = refusal.error;
     if let CertError::NoMemory = error {
-        Halt::Memory
+        Halt::Plain(Stop::Memory)
     } else {
         let reason = refusal_reason(bytes, refusal);
-        Halt::Certificate(Reasoned::new(alloc, error, reason))
+        Halt::explained(alloc, Why::Certificate(Refusal { error, reason }))
     }
 }
 
@@ -118,22 +120,11 @@ pub fn not_accepted<'a>(alloc: Global, refused: &Refused, vlen: Vlen) -> Halt<'a
 {
     let error = refused.error;
     if let CheckError::NoMemory = error {
-        Halt::Memory
-    } else {
-        let reason = reason_of(alloc, refused, vlen).ok();
-        Halt::Check(Reasoned::maybe(alloc, error, reason))
+        return Halt::Plain(Stop::Memory);
     }
-}
-
-/// A job is refused for this reason.
-fn bad_job<'a>(alloc: Global, reason: JobReason) -> Halt<'a>
-    ensures stop { stop_of result ≡ Job (error_of reason) }
-    ensures told { TellsJob reason result }
-{
-    let error = error_of(&reason);
-    match boxed(alloc, reason) {
-        Some(reason) => Halt::Job(reason),
-        None => Halt::UntoldJob(error),
+    match reason_of(alloc, refused, vlen) {
+        Ok(reason) => Halt::explained(alloc, Why::Check(Refusal { error, reason })),
+        Err(_) => Halt::Plain(Stop::Check(error)),
     }
 }
 
@@ -143,8 +134,8 @@ pub fn bad_text<'a>(alloc: Global, reason: Option<JobReason>) -> Halt<'a>
     ensures told { TellsText reason result }
 {
     match reason {
-        Some(reason) => bad_job(alloc, reason),
-        None => Halt::Memory,
+        Some(reason) => Halt::explained(alloc, Why::Job(reason)),
+        None => Halt::Plain(Stop::Memory),
     }
 }
 
@@ -154,8 +145,8 @@ pub fn not_taken<'a>(alloc: Global, table: &Table, command: Command) -> Halt<'a>
     ensures told { ExplainsTable command (table_view table.now) result }
 {
     match table_reason(alloc, command, table) {
-        Ok(Some(reason)) => bad_job(alloc, reason),
-        Ok(None) | Err(_) => Halt::UntoldJob(JobError::BadKey),
+        Ok(Some(reason)) => Halt::explained(alloc, Why::Job(reason)),
+        Ok(None) | Err(_) => Halt::Plain(Stop::Job(JobError::BadKey)),
     }
 }
 
@@ -165,10 +156,13 @@ pub fn not_made<'a>(alloc: Global, params: &[Param; 8], refusal: MakeRefusal) ->
     ensures told { TellsLoop params.now refusal result }
 {
     match refusal {
-        MakeRefusal::NoMemory => Halt::Memory,
+        MakeRefusal::NoMemory => Halt::Plain(Stop::Memory),
         MakeRefusal::Misfit(misfit) => {
-            let reason = loop_reason(alloc, misfit, params).ok();
-            Halt::Make(Reasoned::maybe(alloc, refusal.error(), reason))
+            let error = refusal.error();
+            match loop_reason(alloc, misfit, params) {
+                Ok(reason) => Halt::explained(alloc, Why::Make(Refusal { error, reason })),
+                Err(_) => Halt::Plain(Stop::Make(error)),
+            }
         }
     }
 }
@@ -196,6 +190,7 @@ fn scalars(places: &[Arg; 8]) -> [u32; 8]
 
 /// A run is not opened: of the arguments or of the bound.
 pub fn not_started<'a>(
+    alloc: Global,
     parameters: &Parameters,
     args: &Args,
     bound: u128,
@@ -206,18 +201,24 @@ pub fn not_started<'a>(
     ensures told { ExplainsOpened parameters.now args.now.places bound max result }
 {
     if let OpenError::NoMemory = error {
-        Halt::Memory
+        Halt::Plain(Stop::Memory)
     } else {
         let reason = open_reason(parameters, args, bound, max, error);
-        Halt::Open(Refusal { error, reason })
+        Halt::explained(alloc, Why::Open(Refusal { error, reason }))
     }
 }
 
 /// No run of an accepted image is opened.
-pub fn not_opened<'a>(accepted: &Accepted, args: &Args, max: u64, error: OpenError) -> Halt<'a>
+pub fn not_opened<'a>(
+    alloc: Global,
+    accepted: &Accepted,
+    args: &Args,
+    max: u64,
+    error: OpenError,
+) -> Halt<'a>
     ensures stop { stop_of result ≡ stop_of_open error }
     ensures told { ExplainsRun max accepted.now args.now.places result }
 {
     let bound = accepted.bound(&scalars(&args.places));
-    not_started(accepted.parameters(), args, bound, max, error)
+    not_started(alloc, accepted.parameters(), args, bound, max, error)
 }

@@ -1,1 +1,2 @@
 pub mod JobLemmas
+pub mod ParamLemmas

@@ -1,2 +1,5 @@
 pub mod Escaped
 pub mod Job
+pub mod Make
+pub mod Loops
+pub mod Open

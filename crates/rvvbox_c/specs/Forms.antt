@@ -5,6 +5,7 @@ use Rattle.region_mem.specs.declared.arguments.Arg.TheVariants as arg
 use Rattle.rvvbox_c.specs.declared.facts.Scalars.{Scalars}
 use Rattle.rvvbox_c.specs.declared.forms.Form.{Form}
 use Rattle.rvvbox_c.specs.declared.forms.Forms.{Forms}
+use Rattle.rvvbox_c.specs.declared.forms.Slices.{Slices}
 
 -- one for each place
 abbrev pub eight : {A : Type 0} → A → A → A → A → A → A → A → A → List A
@@ -12,6 +13,10 @@ eight a b c d e f g h = a ∷ b ∷ c ∷ d ∷ e ∷ f ∷ g ∷ h ∷ []
 
 abbrev pub forms_of : Forms → List Form
 forms_of s = eight s.a0 s.a1 s.a2 s.a3 s.a4 s.a5 s.a6 s.a7
+
+abbrev pub bytes_of : Slices → List (List ℕ)
+bytes_of s =
+    eight s.a0.now s.a1.now s.a2.now s.a3.now s.a4.now s.a5.now s.a6.now s.a7.now
 
 -- the first place whose form is of no kind
 abbrev pub place_of_no_kind : Forms → Option ℕ

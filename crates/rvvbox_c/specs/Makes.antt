@@ -14,9 +14,9 @@ use Rattle.elf_image.specs.Faults.{fault_of}
 use Rattle.elf_image.specs.File.{image_of}
 use Rattle.elf_image.specs.Image.{ImageView}
 use Rattle.elf_image.specs.declared.error.ElfError.{ElfError}
-use Rattle.make_reasons.specs.Make.{parameter_reason}
-use Rattle.make_reasons.specs.declared.make.MakeReason.{MakeReason}
-use Rattle.make_reasons.specs.declared.make.MakeReason.TheVariants as reason
+use Rattle.job_reasons.specs.Make.{parameter_reason}
+use Rattle.job_reasons.specs.declared.make.MakeReason.{MakeReason}
+use Rattle.job_reasons.specs.declared.make.MakeReason.TheVariants as reason
 use Rattle.region_mem.specs.Parameter.{parameters_of}
 use Rattle.region_mem.specs.declared.parameter.Mode.TheVariants.{Read, ReadWrite}
 use Rattle.region_mem.specs.declared.parameter.Param.{Param}

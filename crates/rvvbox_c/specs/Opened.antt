@@ -7,6 +7,7 @@ use Rattle.machine.specs.Run.{Ended, OutOfSteps, Stop, has_ended, outcome_from}
 use Rattle.rvvbox_c.specs.Status.{at_place}
 use Rattle.rvvbox_c.specs.declared.forms.Form.{Form}
 use Rattle.rvvbox_c.specs.declared.forms.Forms.{Forms}
+use Rattle.rvvbox_c.specs.declared.forms.Slices.{Slices}
 use Rattle.rvvbox_c.specs.declared.opened.Open.{Open}
 use Rattle.rvvbox_c.specs.declared.opened.Progress.{Progress}
 use Rattle.rvvbox_c.specs.declared.opened.Registers.{Registers}
@@ -81,6 +82,11 @@ sizes_in s b0 b1 b2 b3 b4 b5 b6 b7 = record {
   a7 = named_in s.a7 b7;
 }
 
+-- of the bytes at eight places
+abbrev pub sizes_of : Forms → Slices → Sizes
+sizes_of s z =
+    sizes_in s z.a0.now z.a1.now z.a2.now z.a3.now z.a4.now z.a5.now z.a6.now z.a7.now
+
 -- `n` bytes can't take those of the run's argument: it has none, or another number of them
 abbrev pub size_differs : Option ℕ → ℕ → Option Status
 size_differs None n = Some WrongKind
@@ -102,3 +108,8 @@ back_refusal z s b0 b1 b2 b3 b4 b5 b6 b7 =
     (option_or (back_at 2 z.a2 s.a2 b2) (option_or (back_at 3 z.a3 s.a3 b3)
     (option_or (back_at 4 z.a4 s.a4 b4) (option_or (back_at 5 z.a5 s.a5 b5)
     (option_or (back_at 6 z.a6 s.a6 b6) (back_at 7 z.a7 s.a7 b7)))))))
+
+-- of the bytes at eight places
+abbrev pub back_refusal_of : Sizes → Forms → Slices → Option Refusal
+back_refusal_of sizes s z =
+    back_refusal sizes s z.a0.now z.a1.now z.a2.now z.a3.now z.a4.now z.a5.now z.a6.now z.a7.now

@@ -1,7 +1,7 @@
 //! The eight arguments of a run, where the host has their bytes.
 ghost use Rattle.std.specs.Prelude.{◌≡◌, ◌≢◌, ◌∷◌, [], IfErr, IfOk, IfSome, length};
-ghost use Rattle.rvvbox_c.specs.Forms.{all_in, all_left, argument_in, eight, forms_of, left_in};
-ghost use Rattle.rvvbox_c.specs.Forms.{number_in, numbers_in, place_of_no_kind};
+ghost use Rattle.rvvbox_c.specs.Forms.{all_in, all_left, argument_in, bytes_of, eight, forms_of};
+ghost use Rattle.rvvbox_c.specs.Forms.{left_in, number_in, numbers_in, place_of_no_kind};
 
 use crate::facts::Scalars;
 use region_mem::{Arg, Args, Bytes};
@@ -28,6 +28,19 @@ pub struct Forms {
     pub a5: Form,
     pub a6: Form,
     pub a7: Form,
+}
+
+/// The host's bytes at the eight places.
+#[derive(Clone, Copy)]
+pub(crate) struct Slices<'a> {
+    pub(crate) a0: &'a [u8],
+    pub(crate) a1: &'a [u8],
+    pub(crate) a2: &'a [u8],
+    pub(crate) a3: &'a [u8],
+    pub(crate) a4: &'a [u8],
+    pub(crate) a5: &'a [u8],
+    pub(crate) a6: &'a [u8],
+    pub(crate) a7: &'a [u8],
 }
 
 impl Forms {
@@ -94,41 +107,53 @@ fn argument(alloc: Global, form: Form, read: &[u8], put: &[u8]) -> Result<Arg, A
     }
 }
 
-/// What eight forms name, with copies of their bytes.
-pub(crate) fn arguments(
+/// What four forms name, with copies of their bytes.
+fn four(
     alloc: Global,
-    forms: &Forms,
+    first: Form,
+    second: Form,
+    third: Form,
+    fourth: Form,
     r0: &[u8],
     r1: &[u8],
     r2: &[u8],
     r3: &[u8],
-    r4: &[u8],
-    r5: &[u8],
-    r6: &[u8],
-    r7: &[u8],
     b0: &[u8],
     b1: &[u8],
     b2: &[u8],
     b3: &[u8],
-    b4: &[u8],
-    b5: &[u8],
-    b6: &[u8],
-    b7: &[u8],
-) -> Result<Args, AllocError>
-    ensures { IfOk result (λ args. args.places ≡ all_in (forms_of forms.now)
-        (eight r0.now r1.now r2.now r3.now r4.now r5.now r6.now r7.now)
-        (eight b0.now b1.now b2.now b3.now b4.now b5.now b6.now b7.now)) }
+) -> Result<(Arg, Arg, Arg, Arg), AllocError>
+    ensures first { IfOk result (λ args. args.0 ≡ argument_in first r0.now b0.now) }
+    ensures second { IfOk result (λ args. args.1 ≡ argument_in second r1.now b1.now) }
+    ensures third { IfOk result (λ args. args.2 ≡ argument_in third r2.now b2.now) }
+    ensures fourth { IfOk result (λ args. args.3 ≡ argument_in fourth r3.now b3.now) }
 {
-    let places = [
-        argument(alloc, forms.a0, r0, b0)?,
-        argument(alloc, forms.a1, r1, b1)?,
-        argument(alloc, forms.a2, r2, b2)?,
-        argument(alloc, forms.a3, r3, b3)?,
-        argument(alloc, forms.a4, r4, b4)?,
-        argument(alloc, forms.a5, r5, b5)?,
-        argument(alloc, forms.a6, r6, b6)?,
-        argument(alloc, forms.a7, r7, b7)?,
-    ];
+    let a0 = argument(alloc, first, r0, b0)?;
+    let a1 = argument(alloc, second, r1, b1)?;
+    let a2 = argument(alloc, third, r2, b2)?;
+    let a3 = argument(alloc, fourth, r3, b3)?;
+    Ok((a0, a1, a2, a3))
+}
+
+/// What eight forms name, with copies of their bytes.
+pub(crate) fn arguments(
+    alloc: Global,
+    forms: &Forms,
+    reads: &Slices,
+    puts: &Slices,
+) -> Result<Args, AllocError>
+    ensures { IfOk result (λ args. args.places
+        ≡ all_in (forms_of forms.now) (bytes_of reads.now) (bytes_of puts.now)) }
+{
+    let (a0, a1, a2, a3) = four(
+        alloc, forms.a0, forms.a1, forms.a2, forms.a3, reads.a0, reads.a1, reads.a2, reads.a3,
+        puts.a0, puts.a1, puts.a2, puts.a3,
+    )?;
+    let (a4, a5, a6, a7) = four(
+        alloc, forms.a4, forms.a5, forms.a6, forms.a7, reads.a4, reads.a5, reads.a6, reads.a7,
+        puts.a4, puts.a5, puts.a6, puts.a7,
+    )?;
+    let places = [a0, a1, a2, a3, a4, a5, a6, a7];
     Ok(Args { places })
 }
 

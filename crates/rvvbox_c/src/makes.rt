@@ -18,7 +18,7 @@ use crate::status::{Refusal, Status};
 use cert_maker::make;
 use cert_note::Certificate;
 use elf_image::Image;
-use make_reasons::{MakeReason, parameter_reason};
+use job_reasons::{MakeReason, parameter_reason};
 use region_mem::{Mode, Param, Parameters};
 use std::alloc::Global;
 use vreg_groups::Vlen;

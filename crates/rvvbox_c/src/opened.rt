@@ -2,10 +2,10 @@
 ghost use Rattle.std.specs.Prelude.{◌≡◌, IfSome};
 ghost use Rattle.sandbox_run.specs.AnySession.{run_in};
 ghost use Rattle.rvvbox_c.specs.Holds.{IsFailure};
-ghost use Rattle.rvvbox_c.specs.Opened.{HasGoneOn, back_at as back_at_place, back_refusal, bit_of};
-ghost use Rattle.rvvbox_c.specs.Opened.{named_in, registers_told, sizes_in};
+ghost use Rattle.rvvbox_c.specs.Opened.{HasGoneOn, back_at as back_at_place, back_refusal_of};
+ghost use Rattle.rvvbox_c.specs.Opened.{bit_of, named_in, registers_told, sizes_of};
 
-use crate::forms::{Form, Forms};
+use crate::forms::{Form, Forms, Slices};
 use crate::status::{Refusal, Status};
 use sandbox_run::AnySession;
 
@@ -93,60 +93,39 @@ fn back_at(place: usize, size: Option<usize>, form: Form, bytes: &[u8]) -> Optio
 
 impl Sizes {
     /// The sizes of what the forms name.
-    pub(crate) fn of(
-        forms: &Forms,
-        b0: &[u8],
-        b1: &[u8],
-        b2: &[u8],
-        b3: &[u8],
-        b4: &[u8],
-        b5: &[u8],
-        b6: &[u8],
-        b7: &[u8],
-    ) -> Sizes
-        ensures { result ≡ sizes_in forms.now b0.now b1.now b2.now b3.now b4.now b5.now b6.now
-            b7.now }
+    pub(crate) fn of(forms: &Forms, bytes: &Slices) -> Sizes
+        ensures { result ≡ sizes_of forms.now bytes.now }
     {
         Sizes {
-            a0: named(forms.a0, b0),
-            a1: named(forms.a1, b1),
-            a2: named(forms.a2, b2),
-            a3: named(forms.a3, b3),
-            a4: named(forms.a4, b4),
-            a5: named(forms.a5, b5),
-            a6: named(forms.a6, b6),
-            a7: named(forms.a7, b7),
+            a0: named(forms.a0, bytes.a0),
+            a1: named(forms.a1, bytes.a1),
+            a2: named(forms.a2, bytes.a2),
+            a3: named(forms.a3, bytes.a3),
+            a4: named(forms.a4, bytes.a4),
+            a5: named(forms.a5, bytes.a5),
+            a6: named(forms.a6, bytes.a6),
+            a7: named(forms.a7, bytes.a7),
         }
     }
 
     /// Why the run's bytes can't be put back to these: the first place that is to be put back and
     /// has another size, or has no bytes in the run.
     #[tactic(auto, using(crate::proofs::OpenLemmas::either_fails))]
-    pub(crate) fn refusal(
-        &self,
-        forms: &Forms,
-        b0: &[u8],
-        b1: &[u8],
-        b2: &[u8],
-        b3: &[u8],
-        b4: &[u8],
-        b5: &[u8],
-        b6: &[u8],
-        b7: &[u8],
-    ) -> Option<Refusal>
-        ensures told { result ≡ back_refusal self.now forms.now b0.now b1.now b2.now b3.now b4.now
-            b5.now b6.now b7.now }
+    pub(crate) fn refusal(&self, forms: &Forms, bytes: &Slices) -> Option<Refusal>
+        ensures told { result ≡ back_refusal_of self.now forms.now bytes.now }
         ensures failed { IfSome result (λ refusal. IsFailure refusal.status) }
     {
-        let last = back_at(6, self.a6, forms.a6, b6).or(back_at(7, self.a7, forms.a7, b7));
-        let late = back_at(5, self.a5, forms.a5, b5).or(last);
-        let middle = back_at(3, self.a3, forms.a3, b3).or(back_at(4, self.a4, forms.a4, b4).or(
-            late,
+        let last = back_at(6, self.a6, forms.a6, bytes.a6).or(back_at(
+            7, self.a7, forms.a7, bytes.a7,
         ));
-        let early = back_at(1, self.a1, forms.a1, b1).or(back_at(2, self.a2, forms.a2, b2).or(
-            middle,
-        ));
-        back_at(0, self.a0, forms.a0, b0).or(early)
+        let late = back_at(5, self.a5, forms.a5, bytes.a5).or(last);
+        let middle = back_at(3, self.a3, forms.a3, bytes.a3).or(back_at(
+            4, self.a4, forms.a4, bytes.a4,
+        ).or(late));
+        let early = back_at(1, self.a1, forms.a1, bytes.a1).or(back_at(
+            2, self.a2, forms.a2, bytes.a2,
+        ).or(middle));
+        back_at(0, self.a0, forms.a0, bytes.a0).or(early)
     }
 }
 

@@ -3,9 +3,9 @@
 ghost use Rattle.std.specs.Prelude.{◌≡◌, IfErr, IfOk, IfSome, IsErrAnd, IsSomeAnd, None, Some};
 ghost use Rattle.std.specs.Option.{option_map};
 ghost use Rattle.rvvbox_c.specs.Answers.{asked_refusal, kept_at_once, kept_refusal, run_refusal};
-ghost use Rattle.rvvbox_c.specs.Forms.{eight};
+ghost use Rattle.rvvbox_c.specs.Forms.{bytes_of, eight};
 ghost use Rattle.rvvbox_c.specs.Holds.{IsFailure};
-ghost use Rattle.rvvbox_c.specs.Opened.{sizes_in};
+ghost use Rattle.rvvbox_c.specs.Opened.{sizes_in, sizes_of};
 ghost use Rattle.rvvbox_c.specs.Running.{run_kept};
 ghost use Rattle.rvvbox_c.specs.Runs.{open_refusal};
 ghost use Rattle.rvvbox_c.specs.Opening.{HasOpened};
@@ -16,7 +16,7 @@ ghost use Rattle.sandbox_run.specs.AnySession.{run_in, vlenb_in};
 ghost use Rattle.sandbox_run.specs.Session.{IsOpened, open_fault};
 ghost use Rattle.vreg_groups.specs.VectorLength.{vlenb_of};
 
-use crate::forms::{Forms, arguments};
+use crate::forms::{Forms, Slices, arguments};
 use crate::kept::Kernel;
 use crate::opened::{Open, Sizes};
 use crate::run_slot::RunSlot;
@@ -72,33 +72,23 @@ fn open_of(
     forms: &Forms,
     agnostic: u32,
     max: u64,
-    r0: &[u8],
-    r1: &[u8],
-    r2: &[u8],
-    r3: &[u8],
-    r4: &[u8],
-    r5: &[u8],
-    r6: &[u8],
-    r7: &[u8],
+    bytes: &Slices,
     spare: &mut Option<Spare>,
 ) -> Result<Open, Refusal>
     ensures opened { IfOk result (λ o. HasOpened agnostic accepted.now forms.now
-        (eight r0.now r1.now r2.now r3.now r4.now r5.now r6.now r7.now) max o.session) }
-    ensures sizes { IfOk result (λ o. o.sizes ≡ sizes_in forms.now
-        r0.now r1.now r2.now r3.now r4.now r5.now r6.now r7.now) }
+        (bytes_of bytes.now) max o.session) }
+    ensures sizes { IfOk result (λ o. o.sizes ≡ sizes_of forms.now bytes.now) }
     ensures at_once { IfSome (asked_refusal agnostic forms.now)
         (λ refusal. IsErrAnd result (λ told. told ≡ refusal)) }
     ensures refused { IsRefused (run_refusal agnostic max forms.now
-        (eight r0.now r1.now r2.now r3.now r4.now r5.now r6.now r7.now)
-        (eight r0.now r1.now r2.now r3.now r4.now r5.now r6.now r7.now) accepted.now) result }
+        (bytes_of bytes.now) (bytes_of bytes.now) accepted.now) result }
     ensures failed { IfErr result (λ refusal. IsFailure refusal.status) }
 {
     let agnostic = asked(agnostic, forms)?;
-    let args = arguments(
-        alloc, forms, r0, r1, r2, r3, r4, r5, r6, r7, r0, r1, r2, r3, r4, r5, r6, r7,
-    )?;
+    let puts = *bytes;
+    let args = arguments(alloc, forms, bytes, &puts)?;
     let session = session_of(alloc, accepted, forms, args, agnostic, max, spare)?;
-    let sizes = Sizes::of(forms, r0, r1, r2, r3, r4, r5, r6, r7);
+    let sizes = Sizes::of(forms, bytes);
     Ok(Open { session, sizes })
 }
 
@@ -109,27 +99,18 @@ fn open_of_kept(
     forms: &Forms,
     agnostic: u32,
     max: u64,
-    r0: &[u8],
-    r1: &[u8],
-    r2: &[u8],
-    r3: &[u8],
-    r4: &[u8],
-    r5: &[u8],
-    r6: &[u8],
-    r7: &[u8],
+    bytes: &Slices,
     spare: &mut Option<Spare>,
 ) -> Result<Open, Refusal>
     ensures kept { kernel.new.kept ≡ kernel.old.kept }
     ensures opened { IfOk result (λ o. IsSomeAnd (image_kept kernel.old.kept) (λ a.
         HasOpened agnostic a forms.now
-        (eight r0.now r1.now r2.now r3.now r4.now r5.now r6.now r7.now) max o.session)) }
-    ensures sizes { IfOk result (λ o. o.sizes ≡ sizes_in forms.now
-        r0.now r1.now r2.now r3.now r4.now r5.now r6.now r7.now) }
+        (bytes_of bytes.now) max o.session)) }
+    ensures sizes { IfOk result (λ o. o.sizes ≡ sizes_of forms.now bytes.now) }
     ensures at_once { IfSome (kept_at_once agnostic forms.now (image_kept kernel.old.kept))
         (λ refusal. IsErrAnd result (λ told. told ≡ refusal)) }
     ensures refused { IsRefused (kept_refusal agnostic max forms.now
-        (eight r0.now r1.now r2.now r3.now r4.now r5.now r6.now r7.now)
-        (eight r0.now r1.now r2.now r3.now r4.now r5.now r6.now r7.now)
+        (bytes_of bytes.now) (bytes_of bytes.now)
         (image_kept kernel.old.kept)) result }
     ensures failed { IfErr result (λ refusal. IsFailure refusal.status) }
 {
@@ -138,9 +119,7 @@ fn open_of_kept(
         Some(held) => {
             let owner: &Arc<Accepted> = held.accepted();
             let accepted: &Accepted = owner;
-            let opened = open_of(
-                alloc, accepted, forms, agnostic, max, r0, r1, r2, r3, r4, r5, r6, r7, spare,
-            );
+            let opened = open_of(alloc, accepted, forms, agnostic, max, bytes, spare);
             kernel.keep(alloc, held);
             opened
         }
@@ -154,32 +133,22 @@ fn run_of_kept(
     forms: &Forms,
     agnostic: u32,
     max: u64,
-    r0: &[u8],
-    r1: &[u8],
-    r2: &[u8],
-    r3: &[u8],
-    r4: &[u8],
-    r5: &[u8],
-    r6: &[u8],
-    r7: &[u8],
+    bytes: &Slices,
 ) -> Result<Box<Run>, Refusal>
     ensures kept { kernel.new.kept ≡ kernel.old.kept }
     ensures opened { IfOk result (λ b. IsSomeAnd (image_kept kernel.old.kept) (λ a.
         IsSomeAnd (run_kept b.value.kept) (λ o. HasOpened agnostic a forms.now
-        (eight r0.now r1.now r2.now r3.now r4.now r5.now r6.now r7.now) max o.session))) }
+        (bytes_of bytes.now) max o.session))) }
     ensures sizes { IfOk result (λ b. IsSomeAnd (run_kept b.value.kept) (λ o.
-        o.sizes ≡ sizes_in forms.now r0.now r1.now r2.now r3.now r4.now r5.now r6.now r7.now)) }
+        o.sizes ≡ sizes_of forms.now bytes.now)) }
     ensures at_once { IfSome (kept_at_once agnostic forms.now (image_kept kernel.old.kept))
         (λ refusal. IsErrAnd result (λ told. told ≡ refusal)) }
     ensures refused { IsRefused (kept_refusal agnostic max forms.now
-        (eight r0.now r1.now r2.now r3.now r4.now r5.now r6.now r7.now)
-        (eight r0.now r1.now r2.now r3.now r4.now r5.now r6.now r7.now)
+        (bytes_of bytes.now) (bytes_of bytes.now)
         (image_kept kernel.old.kept)) result }
     ensures failed { IfErr result (λ refusal. IsFailure refusal.status) }
 {
-    let opened = open_of_kept(
-        alloc, kernel, forms, agnostic, max, r0, r1, r2, r3, r4, r5, r6, r7, &mut None,
-    )?;
+    let opened = open_of_kept(alloc, kernel, forms, agnostic, max, bytes, &mut None)?;
     run_made(alloc, opened)
 }
 
@@ -221,9 +190,17 @@ pub extern "C" fn rvvbox_open_raw(
         (image_kept kernel.old.kept))) refusal.new }
     ensures refused { IsFailure result → out.new.held ≡ out.old.held }
 {
-    match run_of_kept(
-        alloc, kernel, forms, agnostic, max, r0, r1, r2, r3, r4, r5, r6, r7,
-    ) {
+    let bytes = Slices {
+        a0: r0,
+        a1: r1,
+        a2: r2,
+        a3: r3,
+        a4: r4,
+        a5: r5,
+        a6: r6,
+        a7: r7,
+    };
+    match run_of_kept(alloc, kernel, forms, agnostic, max, &bytes) {
         Ok(run) => {
             out.put(alloc, run);
             *refusal = Refusal::of(Status::Done);
@@ -243,36 +220,25 @@ fn opened_again(
     forms: &Forms,
     agnostic: u32,
     max: u64,
-    r0: &[u8],
-    r1: &[u8],
-    r2: &[u8],
-    r3: &[u8],
-    r4: &[u8],
-    r5: &[u8],
-    r6: &[u8],
-    r7: &[u8],
+    bytes: &Slices,
     session: &mut Run,
 ) -> Result<(), Refusal>
     ensures kept { kernel.new.kept ≡ kernel.old.kept }
     ensures opened { IfOk result (λ _. IsSomeAnd (image_kept kernel.old.kept) (λ a.
         IsSomeAnd (run_kept session.new.kept) (λ o. HasOpened agnostic a forms.now
-        (eight r0.now r1.now r2.now r3.now r4.now r5.now r6.now r7.now) max o.session))) }
+        (bytes_of bytes.now) max o.session))) }
     ensures sizes { IfOk result (λ _. IsSomeAnd (run_kept session.new.kept) (λ o.
-        o.sizes ≡ sizes_in forms.now
-        r0.now r1.now r2.now r3.now r4.now r5.now r6.now r7.now)) }
+        o.sizes ≡ sizes_of forms.now bytes.now)) }
     ensures at_once { IfSome (kept_at_once agnostic forms.now (image_kept kernel.old.kept))
         (λ refusal. IsErrAnd result (λ told. told ≡ refusal)) }
     ensures refused { IsRefused (kept_refusal agnostic max forms.now
-        (eight r0.now r1.now r2.now r3.now r4.now r5.now r6.now r7.now)
-        (eight r0.now r1.now r2.now r3.now r4.now r5.now r6.now r7.now)
+        (bytes_of bytes.now) (bytes_of bytes.now)
         (image_kept kernel.old.kept)) result }
     ensures failed { IfErr result (λ refusal. IsFailure refusal.status) }
     ensures same { IfErr result (λ _. run_kept session.new.kept ≡ run_kept session.old.kept) }
 {
     let mut spare = session.take_spare(alloc);
-    let opened = open_of_kept(
-        alloc, kernel, forms, agnostic, max, r0, r1, r2, r3, r4, r5, r6, r7, &mut spare,
-    );
+    let opened = open_of_kept(alloc, kernel, forms, agnostic, max, bytes, &mut spare);
     session.hold_spare(alloc, spare);
     match session.put(alloc, opened?) {
         Ok(()) => Ok(()),
@@ -318,9 +284,17 @@ pub extern "C" fn rvvbox_open_again_raw(
     ensures refused { IsFailure result
         → run_kept session.new.kept ≡ run_kept session.old.kept }
 {
-    match opened_again(
-        alloc, kernel, forms, agnostic, max, r0, r1, r2, r3, r4, r5, r6, r7, session,
-    ) {
+    let bytes = Slices {
+        a0: r0,
+        a1: r1,
+        a2: r2,
+        a3: r3,
+        a4: r4,
+        a5: r5,
+        a6: r6,
+        a7: r7,
+    };
+    match opened_again(alloc, kernel, forms, agnostic, max, &bytes, session) {
         Ok(()) => {
             *refusal = Refusal::of(Status::Done);
             Status::Done.code()

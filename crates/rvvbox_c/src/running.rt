@@ -63,9 +63,7 @@ impl Run {
     pub(crate) fn made(alloc: Global, opened: Open) -> Result<Box<Run>, AllocError>
         ensures { IfOk result (λ b. run_kept b.value.kept ≡ Some opened) }
     {
-        let Ok(held) = Box::new(alloc, Standing::of(opened)) else {
-            return Err(AllocError);
-        };
+        let held = boxed(alloc, opened)?;
         let Ok(mut run) = Box::new(alloc, Run::empty()) else {
             return Err(AllocError);
         };
@@ -79,18 +77,14 @@ impl Run {
         ensures refused { IfErr result (λ _. self.old.kept ≡ None) }
         ensures kept { IfErr result (λ _. self.new.kept ≡ self.old.kept) }
     {
-        match self.take(alloc) {
-            None => {
-                let Ok(held) = Box::new(alloc, Standing::of(opened)) else {
-                    return Err(AllocError);
-                };
-                self.keep(alloc, held);
-            }
+        let held = match self.take(alloc) {
+            None => boxed(alloc, opened)?,
             Some(mut held) => {
                 held.put(opened);
-                self.keep(alloc, held);
+                held
             }
-        }
+        };
+        self.keep(alloc, held);
         Ok(())
     }
 
@@ -131,5 +125,15 @@ impl Run {
         if let Some(loose) = before.into_loose(alloc) {
             drop(loose.into_box());
         }
+    }
+}
+
+/// A run that a session can hold, in memory of its own.
+fn boxed(alloc: Global, opened: Open) -> Result<Box<Standing>, AllocError>
+    ensures { IfOk result (λ b. b.value ≡ Some opened) }
+{
+    match Box::new(alloc, Standing::of(opened)) {
+        Ok(held) => Ok(held),
+        Err(_) => Err(AllocError),
     }
 }

@@ -4,7 +4,7 @@ ghost use Rattle.std.specs.Option.{option_map};
 ghost use Rattle.std.specs.Result.{result_err};
 ghost use Rattle.rvvbox_c.specs.Accept.{agnostic_at};
 ghost use Rattle.rvvbox_c.specs.Answers.{asked_refusal, kept_at_once, kept_refusal, run_refusal};
-ghost use Rattle.rvvbox_c.specs.Forms.{eight};
+ghost use Rattle.rvvbox_c.specs.Forms.{all_left, bytes_of, eight, forms_of};
 ghost use Rattle.rvvbox_c.specs.Holds.{IsFailure};
 ghost use Rattle.rvvbox_c.specs.Runs.{Gives, HasRun, open_refusal};
 ghost use Rattle.rvvbox_c.specs.Slots.{image_kept};
@@ -14,7 +14,7 @@ ghost use Rattle.vreg_groups.specs.VectorLength.{IsVlenb, vlenb_of};
 
 use crate::accept::agnostic_of;
 use crate::facts::most_of;
-use crate::forms::{Forms, arguments, put_all};
+use crate::forms::{Forms, Slices, arguments, put_all};
 use crate::kept::Kernel;
 use crate::status::{Refusal, Status};
 use block_checker::Accepted;
@@ -105,7 +105,7 @@ pub(crate) fn asked(agnostic: u32, forms: &Forms) -> Result<Agnostic, Refusal>
     }
 }
 
-/// One run of an accepted image. Where it is refused all bytes are as they were.
+/// One run of an accepted image on copies of the bytes: its steps, and what it leaves of the arguments.
 fn run_one(
     alloc: Global,
     accepted: &Accepted,
@@ -113,99 +113,46 @@ fn run_one(
     agnostic: u32,
     max: u64,
     spare: &mut Option<Spare>,
-    r0: &[u8],
-    r1: &[u8],
-    r2: &[u8],
-    r3: &[u8],
-    r4: &[u8],
-    r5: &[u8],
-    r6: &[u8],
-    r7: &[u8],
-    b0: &mut [u8],
-    b1: &mut [u8],
-    b2: &mut [u8],
-    b3: &mut [u8],
-    b4: &mut [u8],
-    b5: &mut [u8],
-    b6: &mut [u8],
-    b7: &mut [u8],
-) -> Result<u64, Refusal>
-    ensures ran { IfOk result (HasRun agnostic accepted.now forms.now
-        (eight r0.now r1.now r2.now r3.now r4.now r5.now r6.now r7.now)
-        (eight b0.old b1.old b2.old b3.old b4.old b5.old b6.old b7.old)
-        (eight b0.new b1.new b2.new b3.new b4.new b5.new b6.new b7.new)) }
-    ensures within { IfOk result (λ steps. steps ≤ max) }
+    reads: &Slices,
+    puts: &Slices,
+) -> Result<(u64, Args), Refusal>
+    ensures ran { IfOk result (λ r. HasRun agnostic accepted.now forms.now
+        (bytes_of reads.now) (bytes_of puts.now)
+        (all_left r.1.places (forms_of forms.now) (bytes_of puts.now)) r.0) }
+    ensures within { IfOk result (λ r. r.0 ≤ max) }
     ensures at_once { IfSome (asked_refusal agnostic forms.now)
         (λ refusal. IsErrAnd result (λ told. told ≡ refusal)) }
     ensures refused { IsRefused (run_refusal agnostic max forms.now
-        (eight r0.now r1.now r2.now r3.now r4.now r5.now r6.now r7.now)
-        (eight b0.old b1.old b2.old b3.old b4.old b5.old b6.old b7.old) accepted.now) result }
+        (bytes_of reads.now) (bytes_of puts.now) accepted.now) result }
     ensures failed { IfErr result (λ refusal. IsFailure refusal.status) }
-    ensures kept0 { IfErr result (λ _. b0.new ≡ b0.old) }
-    ensures kept1 { IfErr result (λ _. b1.new ≡ b1.old) }
-    ensures kept2 { IfErr result (λ _. b2.new ≡ b2.old) }
-    ensures kept3 { IfErr result (λ _. b3.new ≡ b3.old) }
-    ensures kept4 { IfErr result (λ _. b4.new ≡ b4.old) }
-    ensures kept5 { IfErr result (λ _. b5.new ≡ b5.old) }
-    ensures kept6 { IfErr result (λ _. b6.new ≡ b6.old) }
-    ensures kept7 { IfErr result (λ _. b7.new ≡ b7.old) }
 {
     let agnostic = asked(agnostic, forms)?;
-    let args = arguments(
-        alloc, forms, r0, r1, r2, r3, r4, r5, r6, r7, &*b0, &*b1, &*b2, &*b3, &*b4, &*b5, &*b6,
-        &*b7,
-    )?;
-    let (steps, args) = ran(alloc, accepted, forms, args, agnostic, max, spare)?;
-    put_all(&args.places, forms, b0, b1, b2, b3, b4, b5, b6, b7);
-    Ok(steps)
+    let args = arguments(alloc, forms, reads, puts)?;
+    ran(alloc, accepted, forms, args, agnostic, max, spare)
 }
 
-/// One run of what a kernel keeps.
+/// One run of what a kernel keeps, in the same way.
 fn run_kept(
     alloc: Global,
     kernel: &mut Kernel,
     forms: &Forms,
     agnostic: u32,
     max: u64,
-    r0: &[u8],
-    r1: &[u8],
-    r2: &[u8],
-    r3: &[u8],
-    r4: &[u8],
-    r5: &[u8],
-    r6: &[u8],
-    r7: &[u8],
-    b0: &mut [u8],
-    b1: &mut [u8],
-    b2: &mut [u8],
-    b3: &mut [u8],
-    b4: &mut [u8],
-    b5: &mut [u8],
-    b6: &mut [u8],
-    b7: &mut [u8],
-) -> Result<u64, Refusal>
+    reads: &Slices,
+    puts: &Slices,
+) -> Result<(u64, Args), Refusal>
     ensures kept { kernel.new.kept ≡ kernel.old.kept }
-    ensures ran { IfOk result (λ steps. IsSomeAnd (image_kept kernel.old.kept) (λ a.
+    ensures ran { IfOk result (λ r. IsSomeAnd (image_kept kernel.old.kept) (λ a.
         HasRun agnostic a forms.now
-        (eight r0.now r1.now r2.now r3.now r4.now r5.now r6.now r7.now)
-        (eight b0.old b1.old b2.old b3.old b4.old b5.old b6.old b7.old)
-        (eight b0.new b1.new b2.new b3.new b4.new b5.new b6.new b7.new) steps)) }
-    ensures within { IfOk result (λ steps. steps ≤ max) }
+        (bytes_of reads.now) (bytes_of puts.now)
+        (all_left r.1.places (forms_of forms.now) (bytes_of puts.now)) r.0)) }
+    ensures within { IfOk result (λ r. r.0 ≤ max) }
     ensures at_once { IfSome (kept_at_once agnostic forms.now (image_kept kernel.old.kept))
         (λ refusal. IsErrAnd result (λ told. told ≡ refusal)) }
     ensures refused { IsRefused (kept_refusal agnostic max forms.now
-        (eight r0.now r1.now r2.now r3.now r4.now r5.now r6.now r7.now)
-        (eight b0.old b1.old b2.old b3.old b4.old b5.old b6.old b7.old)
+        (bytes_of reads.now) (bytes_of puts.now)
         (image_kept kernel.old.kept)) result }
     ensures failed { IfErr result (λ refusal. IsFailure refusal.status) }
-    ensures kept0 { IfErr result (λ _. b0.new ≡ b0.old) }
-    ensures kept1 { IfErr result (λ _. b1.new ≡ b1.old) }
-    ensures kept2 { IfErr result (λ _. b2.new ≡ b2.old) }
-    ensures kept3 { IfErr result (λ _. b3.new ≡ b3.old) }
-    ensures kept4 { IfErr result (λ _. b4.new ≡ b4.old) }
-    ensures kept5 { IfErr result (λ _. b5.new ≡ b5.old) }
-    ensures kept6 { IfErr result (λ _. b6.new ≡ b6.old) }
-    ensures kept7 { IfErr result (λ _. b7.new ≡ b7.old) }
 {
     match kernel.take(alloc) {
         None => Err(Refusal::of(Status::NothingKept)),
@@ -214,8 +161,7 @@ fn run_kept(
             let owner: &Arc<Accepted> = held.accepted();
             let accepted: &Accepted = owner;
             let ran = run_one(
-                alloc, accepted, forms, agnostic, max, &mut spare, r0, r1, r2, r3, r4, r5, r6, r7,
-                b0, b1, b2, b3, b4, b5, b6, b7,
+                alloc, accepted, forms, agnostic, max, &mut spare, reads, puts,
             );
             held.hold_spare(spare);
             kernel.keep(alloc, held);
@@ -277,13 +223,31 @@ pub extern "C" fn rvvbox_run_raw(
     ensures kept6 { IsFailure result → b6.new ≡ b6.old }
     ensures kept7 { IsFailure result → b7.new ≡ b7.old }
 {
-    match run_kept(
-        alloc, kernel, forms, agnostic, max, r0, r1, r2, r3, r4, r5, r6, r7, b0, b1, b2, b3, b4,
-        b5, b6, b7,
-    ) {
-        Ok(done) => {
+    let reads = Slices {
+        a0: r0,
+        a1: r1,
+        a2: r2,
+        a3: r3,
+        a4: r4,
+        a5: r5,
+        a6: r6,
+        a7: r7,
+    };
+    let puts = Slices {
+        a0: &*b0,
+        a1: &*b1,
+        a2: &*b2,
+        a3: &*b3,
+        a4: &*b4,
+        a5: &*b5,
+        a6: &*b6,
+        a7: &*b7,
+    };
+    match run_kept(alloc, kernel, forms, agnostic, max, &reads, &puts) {
+        Ok((done, args)) => {
             *steps = done;
             *refusal = Refusal::of(Status::Done);
+            put_all(&args.places, forms, b0, b1, b2, b3, b4, b5, b6, b7);
             Status::Done.code()
         }
         Err(told) => {

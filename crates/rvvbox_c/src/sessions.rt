@@ -1,21 +1,24 @@
 //! Runs of a kernel that go on by a number of steps at a time, until they are closed.
-ghost use Rattle.std.specs.Prelude.{◌≡◌, ◌≤◌, ◌+◌, IfSome, IsSomeAnd, None, Some, false};
+ghost use Rattle.std.specs.Prelude.{◌≡◌, ◌≤◌, ◌+◌, Err, IfErr, IfOk, IfSome, IsSomeAnd, None};
+ghost use Rattle.std.specs.Prelude.{false};
+ghost use Rattle.std.specs.Result.{result_err};
 ghost use Rattle.region_mem.specs.Memory.{args_of, byte_of};
 ghost use Rattle.rvvbox_c.specs.Forms.{all_left, eight, forms_of};
 ghost use Rattle.rvvbox_c.specs.Holds.{IsFailure};
-ghost use Rattle.rvvbox_c.specs.Opened.{IsSameRun, back_refusal, progress_of, registers_told};
-ghost use Rattle.rvvbox_c.specs.Opened.{stop_of};
+ghost use Rattle.rvvbox_c.specs.Opened.{IsSameRun, back_refusal, back_refusal_of, progress_of};
+ghost use Rattle.rvvbox_c.specs.Opened.{registers_told, stop_of};
 ghost use Rattle.rvvbox_c.specs.Running.{run_kept};
 ghost use Rattle.rvvbox_c.specs.Status.{code_of, plain, told_of};
 ghost use Rattle.rvvbox_c.specs.declared.status.Status.TheVariants.{BadRange, NothingKept};
 ghost use Rattle.sandbox_run.specs.AnySession.{run_in, vlenb_in};
 ghost use Rattle.machine.specs.Run.{has_ended, outcome_from};
 
-use crate::forms::{Forms, put_all};
+use crate::forms::{Forms, Slices, put_all};
 use crate::opened::{Progress, Registers};
 use crate::run_slot::RunSlot;
 use crate::running::Run;
 use crate::status::{Refusal, Status};
+use region_mem::Args;
 use std::alloc::Global;
 
 /// Goes on for at most `most` steps. `progress` tells whether the run has ended, and how many steps
@@ -125,50 +128,23 @@ pub extern "C" fn rvvbox_byte_of(
     }
 }
 
-/// Ends a run wherever it stands, and puts its bytes back where they fit.
-fn closed(
-    alloc: Global,
-    session: &mut Run,
-    forms: &Forms,
-    b0: &mut [u8],
-    b1: &mut [u8],
-    b2: &mut [u8],
-    b3: &mut [u8],
-    b4: &mut [u8],
-    b5: &mut [u8],
-    b6: &mut [u8],
-    b7: &mut [u8],
-) -> Option<Refusal>
-    ensures nothing { run_kept session.old.kept ≡ None → result ≡ Some (plain NothingKept) }
-    ensures told { IfSome (run_kept session.old.kept) (λ o. result ≡ back_refusal o.sizes forms.now
-        b0.old b1.old b2.old b3.old b4.old b5.old b6.old b7.old) }
-    ensures failed { IfSome result (λ refusal. IsFailure refusal.status) }
-    ensures over { result ≡ None → run_kept session.new.kept ≡ None }
-    ensures put { result ≡ None → IsSomeAnd (run_kept session.old.kept) (λ o.
-        eight b0.new b1.new b2.new b3.new b4.new b5.new b6.new b7.new
-        ≡ all_left (args_of (run_in o.session).machine.memory) (forms_of forms.now)
-        (eight b0.old b1.old b2.old b3.old b4.old b5.old b6.old b7.old)) }
-    ensures kept { IfSome result (λ _. run_kept session.new.kept ≡ run_kept session.old.kept) }
-    ensures kept0 { IfSome result (λ _. b0.new ≡ b0.old) }
-    ensures kept1 { IfSome result (λ _. b1.new ≡ b1.old) }
-    ensures kept2 { IfSome result (λ _. b2.new ≡ b2.old) }
-    ensures kept3 { IfSome result (λ _. b3.new ≡ b3.old) }
-    ensures kept4 { IfSome result (λ _. b4.new ≡ b4.old) }
-    ensures kept5 { IfSome result (λ _. b5.new ≡ b5.old) }
-    ensures kept6 { IfSome result (λ _. b6.new ≡ b6.old) }
-    ensures kept7 { IfSome result (λ _. b7.new ≡ b7.old) }
+/// Ends a run wherever it stands, and answers its arguments, where its bytes can be put back to these.
+fn closed(alloc: Global, session: &mut Run, forms: &Forms, bytes: &Slices) -> Result<Args, Refusal>
+    ensures nothing { run_kept session.old.kept ≡ None → result ≡ Err (plain NothingKept) }
+    ensures told { IfSome (run_kept session.old.kept) (λ o.
+        result_err result ≡ back_refusal_of o.sizes forms.now bytes.now) }
+    ensures failed { IfErr result (λ refusal. IsFailure refusal.status) }
+    ensures over { IfOk result (λ _. run_kept session.new.kept ≡ None) }
+    ensures kept { IfErr result (λ _. run_kept session.new.kept ≡ run_kept session.old.kept) }
+    ensures back { IfOk result (λ args. IsSomeAnd (run_kept session.old.kept) (λ o.
+        args.places ≡ args_of (run_in o.session).machine.memory)) }
 {
     let Some(mut held) = session.take(alloc) else {
-        return Some(Refusal::of(Status::NothingKept));
+        return Err(Refusal::of(Status::NothingKept));
     };
-    let refusal = held.refusal(forms, &*b0, &*b1, &*b2, &*b3, &*b4, &*b5, &*b6, &*b7);
-    if refusal.is_none() {
-        if let Some(args) = held.close() {
-            put_all(&args.places, forms, b0, b1, b2, b3, b4, b5, b6, b7);
-        }
-    }
+    let closed = held.close(forms, bytes);
     session.keep(alloc, held);
-    refusal
+    closed
 }
 
 /// Ends a session wherever its run stands: where `forms` have a kind that is put back, the bytes of
@@ -209,12 +185,23 @@ pub extern "C" fn rvvbox_close_raw(
     ensures kept6 { IsFailure result → b6.new ≡ b6.old }
     ensures kept7 { IsFailure result → b7.new ≡ b7.old }
 {
-    match closed(alloc, session, forms, b0, b1, b2, b3, b4, b5, b6, b7) {
-        None => {
+    let bytes = Slices {
+        a0: &*b0,
+        a1: &*b1,
+        a2: &*b2,
+        a3: &*b3,
+        a4: &*b4,
+        a5: &*b5,
+        a6: &*b6,
+        a7: &*b7,
+    };
+    match closed(alloc, session, forms, &bytes) {
+        Ok(args) => {
+            put_all(&args.places, forms, b0, b1, b2, b3, b4, b5, b6, b7);
             *refusal = Refusal::of(Status::Done);
             Status::Done.code()
         }
-        Some(told) => {
+        Err(told) => {
             *refusal = told;
             told.status
         }

@@ -1,14 +1,15 @@
 //! What a session holds.
-ghost use Rattle.std.specs.Prelude.{◌≡◌, IfSome, IsSomeAnd, None, Some};
+ghost use Rattle.std.specs.Prelude.{◌≡◌, Err, IfErr, IfOk, IfSome, IsSomeAnd, None, Some};
 ghost use Rattle.std.specs.Option.{option_map};
+ghost use Rattle.std.specs.Result.{result_err};
 ghost use Rattle.region_mem.specs.Memory.{args_of, byte_of};
 ghost use Rattle.sandbox_run.specs.AnySession.{run_in};
 ghost use Rattle.rvvbox_c.specs.Holds.{IsFailure};
-ghost use Rattle.rvvbox_c.specs.Opened.{HasGoneOn, back_refusal, registers_told};
+ghost use Rattle.rvvbox_c.specs.Opened.{HasGoneOn, back_refusal_of, registers_told};
 ghost use Rattle.rvvbox_c.specs.Status.{plain};
 ghost use Rattle.rvvbox_c.specs.declared.status.Status.TheVariants.{NothingKept};
 
-use crate::forms::Forms;
+use crate::forms::{Forms, Slices};
 use crate::opened::{Open, Progress, Registers};
 use crate::status::{Refusal, Status};
 use region_mem::Args;
@@ -98,39 +99,37 @@ impl Standing {
         }
     }
 
+    /// Ends the run wherever it stands, and answers its arguments, where its bytes can be put back to
+    /// these. What it leaves stays here.
+    pub(crate) fn close(&mut self, forms: &Forms, bytes: &Slices) -> Result<Args, Refusal>
+        ensures nothing { self.old ≡ None → result ≡ Err (plain NothingKept) }
+        ensures told { IfSome self.old (λ o.
+            result_err result ≡ back_refusal_of o.sizes forms.now bytes.now) }
+        ensures failed { IfErr result (λ refusal. IsFailure refusal.status) }
+        ensures over { IfOk result (λ _. self.new ≡ None) }
+        ensures kept { IfErr result (λ _. self.new ≡ self.old) }
+        ensures back { IfOk result (λ args. IsSomeAnd self.old (λ o.
+            args.places ≡ args_of (run_in o.session).machine.memory)) }
+    {
+        if let Some(refusal) = self.refusal(forms, bytes) {
+            return Err(refusal);
+        }
+        match self.run.take() {
+            None => Err(Refusal::of(Status::NothingKept)),
+            Some(Open { session, .. }) => Ok(session.close_into(&mut self.spare)),
+        }
+    }
+
     /// Why the run's bytes can't be put back to these, or that there is no run.
-    pub(crate) fn refusal(
-        &self,
-        forms: &Forms,
-        b0: &[u8],
-        b1: &[u8],
-        b2: &[u8],
-        b3: &[u8],
-        b4: &[u8],
-        b5: &[u8],
-        b6: &[u8],
-        b7: &[u8],
-    ) -> Option<Refusal>
+    fn refusal(&self, forms: &Forms, bytes: &Slices) -> Option<Refusal>
         ensures nothing { self.now ≡ None → result ≡ Some (plain NothingKept) }
-        ensures told { IfSome self.now (λ o. result ≡ back_refusal o.sizes forms.now
-            b0.now b1.now b2.now b3.now b4.now b5.now b6.now b7.now) }
+        ensures told { IfSome self.now (λ o.
+            result ≡ back_refusal_of o.sizes forms.now bytes.now) }
         ensures failed { IfSome result (λ refusal. IsFailure refusal.status) }
     {
         match &self.run {
             None => Some(Refusal::of(Status::NothingKept)),
-            Some(opened) => opened.sizes.refusal(forms, b0, b1, b2, b3, b4, b5, b6, b7),
-        }
-    }
-
-    /// Ends the run wherever it stands, and answers its arguments. What it leaves stays here.
-    pub(crate) fn close(&mut self) -> Option<Args>
-        ensures over { self.new ≡ None }
-        ensures back { option_map (λ args. args.places) result
-            ≡ option_map (λ o. args_of (run_in o.session).machine.memory) self.old }
-    {
-        match self.run.take() {
-            None => None,
-            Some(Open { session, .. }) => Some(session.close_into(&mut self.spare)),
+            Some(opened) => opened.sizes.refusal(forms, bytes),
         }
     }
 }

@@ -8,7 +8,7 @@ ghost use Rattle.vreg_groups.specs.VectorLength.{IsVlenb, vlenb_of};
 ghost use Rattle.rvvbox_c.specs.Accept.{agnostic_at, vlen_at};
 ghost use Rattle.rvvbox_c.specs.Answers.{IsTryAnswer, asked_to_try, size_fault, tried_at_once};
 ghost use Rattle.rvvbox_c.specs.Answers.{try_refusal};
-ghost use Rattle.rvvbox_c.specs.Forms.{all_in, eight, forms_of};
+ghost use Rattle.rvvbox_c.specs.Forms.{all_in, bytes_of, eight, forms_of};
 ghost use Rattle.rvvbox_c.specs.Status.{IsRefused, code_of, plain};
 ghost use Rattle.rvvbox_c.specs.Tries.{HasTried, IsTry, fault_number as number_of_fault, is_tried};
 ghost use Rattle.rvvbox_c.specs.Tries.{param_in, params_in, size_in, stopped_at, tried_from};
@@ -16,7 +16,7 @@ ghost use Rattle.rvvbox_c.specs.Tries.{tried_of};
 ghost use Rattle.rvvbox_c.specs.declared.status.Status.TheVariants.{NoMemory};
 
 use crate::calls::Setting;
-use crate::forms::{Form, Forms, arguments, put_all};
+use crate::forms::{Form, Forms, Slices, arguments, put_all};
 use crate::status::{Refusal, Status};
 use elf_image::Image;
 use region_mem::{Args, Fault, Mode, Param, Parameters};
@@ -170,44 +170,23 @@ fn parameter(form: Form, read: &[u8], put: &[u8]) -> Param
 }
 
 /// The parameters that eight arguments match, where buffers are within the limits.
-fn parameters(
-    forms: &Forms,
-    r0: &[u8],
-    r1: &[u8],
-    r2: &[u8],
-    r3: &[u8],
-    r4: &[u8],
-    r5: &[u8],
-    r6: &[u8],
-    r7: &[u8],
-    b0: &[u8],
-    b1: &[u8],
-    b2: &[u8],
-    b3: &[u8],
-    b4: &[u8],
-    b5: &[u8],
-    b6: &[u8],
-    b7: &[u8],
-) -> Option<Parameters>
+fn parameters(forms: &Forms, reads: &Slices, puts: &Slices) -> Option<Parameters>
     ensures given { result ≡ parameters_of (params_in (forms_of forms.now)
-        (eight r0.now r1.now r2.now r3.now r4.now r5.now r6.now r7.now)
-        (eight b0.now b1.now b2.now b3.now b4.now b5.now b6.now b7.now)) }
+        (bytes_of reads.now) (bytes_of puts.now)) }
     ensures value { IfSome result (λ params. params ≡ params_in (forms_of forms.now)
-        (eight r0.now r1.now r2.now r3.now r4.now r5.now r6.now r7.now)
-        (eight b0.now b1.now b2.now b3.now b4.now b5.now b6.now b7.now)) }
+        (bytes_of reads.now) (bytes_of puts.now)) }
     ensures matching { IfSome result (λ params. AreArguments params (all_in (forms_of forms.now)
-        (eight r0.now r1.now r2.now r3.now r4.now r5.now r6.now r7.now)
-        (eight b0.now b1.now b2.now b3.now b4.now b5.now b6.now b7.now))) }
+        (bytes_of reads.now) (bytes_of puts.now))) }
 {
     Parameters::new([
-        parameter(forms.a0, r0, b0),
-        parameter(forms.a1, r1, b1),
-        parameter(forms.a2, r2, b2),
-        parameter(forms.a3, r3, b3),
-        parameter(forms.a4, r4, b4),
-        parameter(forms.a5, r5, b5),
-        parameter(forms.a6, r6, b6),
-        parameter(forms.a7, r7, b7),
+        parameter(forms.a0, reads.a0, puts.a0),
+        parameter(forms.a1, reads.a1, puts.a1),
+        parameter(forms.a2, reads.a2, puts.a2),
+        parameter(forms.a3, reads.a3, puts.a3),
+        parameter(forms.a4, reads.a4, puts.a4),
+        parameter(forms.a5, reads.a5, puts.a5),
+        parameter(forms.a6, reads.a6, puts.a6),
+        parameter(forms.a7, reads.a7, puts.a7),
     ])
 }
 
@@ -236,44 +215,23 @@ fn tried_on(
     agnostic: Agnostic,
     max: u64,
     forms: &Forms,
-    r0: &[u8],
-    r1: &[u8],
-    r2: &[u8],
-    r3: &[u8],
-    r4: &[u8],
-    r5: &[u8],
-    r6: &[u8],
-    r7: &[u8],
-    b0: &[u8],
-    b1: &[u8],
-    b2: &[u8],
-    b3: &[u8],
-    b4: &[u8],
-    b5: &[u8],
-    b6: &[u8],
-    b7: &[u8],
+    reads: &Slices,
+    puts: &Slices,
 ) -> Result<Tried, Refusal>
     ensures tried { IfOk result (λ tried. tried ≡ tried_from (vlenb_of vlen) agnostic max image.now
         (params_in (forms_of forms.now)
-        (eight r0.now r1.now r2.now r3.now r4.now r5.now r6.now r7.now)
-        (eight b0.now b1.now b2.now b3.now b4.now b5.now b6.now b7.now))
+        (bytes_of reads.now) (bytes_of puts.now))
         (all_in (forms_of forms.now)
-        (eight r0.now r1.now r2.now r3.now r4.now r5.now r6.now r7.now)
-        (eight b0.now b1.now b2.now b3.now b4.now b5.now b6.now b7.now))) }
+        (bytes_of reads.now) (bytes_of puts.now))) }
     ensures done { IfOk result (λ tried. is_tried (code_of tried.status) ≡ true) }
     ensures refused { IsRefused (option_map plain (size_fault forms.now
-        (eight r0.now r1.now r2.now r3.now r4.now r5.now r6.now r7.now)
-        (eight b0.now b1.now b2.now b3.now b4.now b5.now b6.now b7.now))) result }
+        (bytes_of reads.now) (bytes_of puts.now))) result }
     ensures failed { IfErr result (λ refusal. is_tried refusal.status ≡ false) }
 {
-    let Some(parameters) = parameters(
-        forms, r0, r1, r2, r3, r4, r5, r6, r7, b0, b1, b2, b3, b4, b5, b6, b7,
-    ) else {
+    let Some(parameters) = parameters(forms, reads, puts) else {
         return Err(Refusal::of(Status::TooLarge));
     };
-    let args = arguments(
-        alloc, forms, r0, r1, r2, r3, r4, r5, r6, r7, b0, b1, b2, b3, b4, b5, b6, b7,
-    )?;
+    let args = arguments(alloc, forms, reads, puts)?;
     try_image(alloc, image, vlen, args, &parameters, agnostic, max)
 }
 
@@ -283,33 +241,17 @@ fn performed(
     file: &[u8],
     setting: &Setting,
     forms: &Forms,
-    r0: &[u8],
-    r1: &[u8],
-    r2: &[u8],
-    r3: &[u8],
-    r4: &[u8],
-    r5: &[u8],
-    r6: &[u8],
-    r7: &[u8],
-    b0: &[u8],
-    b1: &[u8],
-    b2: &[u8],
-    b3: &[u8],
-    b4: &[u8],
-    b5: &[u8],
-    b6: &[u8],
-    b7: &[u8],
+    reads: &Slices,
+    puts: &Slices,
 ) -> Result<Tried, Refusal>
     ensures tried { IfOk result (IsTry file.now setting.now forms.now
-        (eight r0.now r1.now r2.now r3.now r4.now r5.now r6.now r7.now)
-        (eight b0.now b1.now b2.now b3.now b4.now b5.now b6.now b7.now)) }
+        (bytes_of reads.now) (bytes_of puts.now)) }
     ensures done { IfOk result (λ tried. is_tried (code_of tried.status) ≡ true) }
     ensures failed { IfErr result (λ refusal. is_tried refusal.status ≡ false) }
     ensures at_once { IfSome (tried_at_once file.now setting.now forms.now)
         (λ refusal. IsErrAnd result (λ told. told ≡ refusal)) }
     ensures refused { IsRefused (try_refusal file.now setting.now forms.now
-        (eight r0.now r1.now r2.now r3.now r4.now r5.now r6.now r7.now)
-        (eight b0.now b1.now b2.now b3.now b4.now b5.now b6.now b7.now)) result }
+        (bytes_of reads.now) (bytes_of puts.now)) result }
 {
     let (vlen, agnostic) = set_to(setting, forms)?;
     let image = elf_image::read(alloc, file)?;
@@ -320,22 +262,8 @@ fn performed(
         agnostic,
         setting.max,
         forms,
-        r0,
-        r1,
-        r2,
-        r3,
-        r4,
-        r5,
-        r6,
-        r7,
-        b0,
-        b1,
-        b2,
-        b3,
-        b4,
-        b5,
-        b6,
-        b7,
+        reads,
+        puts,
     )
 }
 
@@ -390,10 +318,27 @@ pub extern "C" fn rvvbox_try_raw(
     ensures kept6 { is_tried result ≡ false → b6.new ≡ b6.old }
     ensures kept7 { is_tried result ≡ false → b7.new ≡ b7.old }
 {
-    match performed(
-        alloc, file, setting, forms, r0, r1, r2, r3, r4, r5, r6, r7, &*b0, &*b1, &*b2, &*b3, &*b4,
-        &*b5, &*b6, &*b7,
-    ) {
+    let reads = Slices {
+        a0: r0,
+        a1: r1,
+        a2: r2,
+        a3: r3,
+        a4: r4,
+        a5: r5,
+        a6: r6,
+        a7: r7,
+    };
+    let puts = Slices {
+        a0: &*b0,
+        a1: &*b1,
+        a2: &*b2,
+        a3: &*b3,
+        a4: &*b4,
+        a5: &*b5,
+        a6: &*b6,
+        a7: &*b7,
+    };
+    match performed(alloc, file, setting, forms, &reads, &puts) {
         Ok(tried) => {
             *stopped = tried.stopped;
             *refusal = Refusal::of(tried.status);

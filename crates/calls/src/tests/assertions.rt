@@ -1,6 +1,8 @@
 //! The assertions of the tests. They have no clause, so that no proof looks into what is compared: the run compares it.
 //! They take their values and not references to them, since a proof pays for each loan that a test makes. What a call gives
 //! is asserted to be there: behind each `?` a proof would let go of all that the test holds.
+use std::alloc::Global;
+use std::fmt::Display;
 use std::process::Abort;
 
 /// Asserts that what came of a call is what is expected, and else names the call.
@@ -34,6 +36,22 @@ pub(crate) fn some_of<T>(rt: impl Abort + Copy, call: &str, answer: Option<T>) -
         Some(value) => value,
         None => panic!(rt; "{call} gives nothing"),
     }
+}
+
+/// A value as it is. A proof knows nothing of it: it would pay for that at each arm of a `match`.
+pub(crate) fn opaque<T>(value: T) -> T {
+    value
+}
+
+/// Asserts what a value is printed as.
+pub(crate) fn assert_text<T: Display>(
+    rt: impl Abort + Copy,
+    alloc: Global,
+    value: &T,
+    expected: &str,
+) {
+    let text = value_of(rt, "format", format!(in alloc; "{value}"));
+    assert_equal(rt, "the text", text.as_str(), expected);
 }
 
 /// What a call gives that may be refused.

@@ -1,7 +1,9 @@
 //! How a file is read.
-use crate::tests::assertions::{assert_same, found, given};
+use crate::tests::assertions::{assert_same, assert_text, found, given};
 use crate::tests::fixture::{elf_header, file_of};
 use elf_image::*;
+use std::alloc::Global;
+use std::process::Abort;
 
 /// What stands behind the ELF header of an executable as the standard lays it out: three program
 /// headers, code, data, a note.
@@ -34,7 +36,25 @@ fn reads_a_file(rt: HostRuntime) {
     let image = given!(rt; read(rt.alloc(), &file));
     assert_same!(rt; image.entry(), 0x10000);
     assert_same!(rt; image.segments().len(), 2);
-    let data = found!(rt; image.segments().get(1));
+    expect_data(rt, found!(rt; image.segments().get(1)));
+    assert_same!(rt; image.segment_at(0x10017), Some(0));
+    assert_same!(rt; image.segment_at(0x10018), None);
+    for k in 0..WORDS.len() {
+        let (address, word) = WORDS[k];
+        assert_same!(rt; image.code_at(address), word);
+    }
+    assert_same!(rt; found!(rt; image.certificate()), [1, 2, 3, 4].as_slice());
+}
+
+/// What is fetched at an address: vsetvli, ecall, a word that passes the end of the code, and data.
+const WORDS: [(u32, Option<u32>); 4] = [
+    (0x10000, Some(0x0c06_72d7)),
+    (0x10014, Some(0x0000_0073)),
+    (0x10015, None),
+    (0x20000, None),
+];
+
+fn expect_data(rt: impl Abort + Copy, data: &Segment) {
     assert_same!(rt; data.address(), 0x20000);
     assert_same!(rt; data.memory_size(), 16);
     assert_same!(rt; data.bytes(), [0xde, 0xad, 0xbe, 0xef].as_slice());
@@ -45,37 +65,40 @@ fn reads_a_file(rt: HostRuntime) {
     };
     assert_same!(rt; data.rights(), rights);
     assert_same!(rt; data.contains(0x2000f), true);
-    assert_same!(rt; image.segment_at(0x10017), Some(0));
-    assert_same!(rt; image.segment_at(0x10018), None);
-    // vsetvli, ecall, a word that passes the end of the code, and data.
-    for (address, word) in [
-        (0x10000, Some(0x0c06_72d7)),
-        (0x10014, Some(0x0000_0073)),
-        (0x10015, None),
-        (0x20000, None),
-    ] {
-        assert_same!(rt; image.code_at(address), word);
-    }
-    assert_same!(rt; found!(rt; image.certificate()), [1, 2, 3, 4].as_slice());
+}
+
+/// The file with one other byte.
+fn changed_file(
+    rt: impl Abort + Copy,
+    alloc: Global,
+    headers: u8,
+    place: usize,
+    byte: u8,
+) -> Vec<u8> {
+    let mut file = file_of(rt, alloc, elf_header(0x1_0000, 52, headers), &BEHIND);
+    *found!(rt; file.get_mut(place)) = byte;
+    file
+}
+
+/// Why that file is refused.
+fn refusal(rt: impl Abort + Copy, alloc: Global, place: usize, byte: u8) -> ElfRefusal {
+    let file = changed_file(rt, alloc, 3, place, byte);
+    found!(rt; read_kept(alloc, &file).err())
 }
 
 /// The file of another machine, with a faulty table besides.
 #[test]
 fn tells_why_a_file_is_refused(rt: HostRuntime) {
-    let mut file = file_of(rt, rt.alloc(), elf_header(0x1_0000, 52, 0), &BEHIND);
-    *found!(rt; file.get_mut(18)) = 62;
+    let file = changed_file(rt, rt.alloc(), 0, 18, 62);
     let error = found!(rt; read(rt.alloc(), &file).err());
     assert_same!(rt; error, ElfError::BadMachine);
-    let text = given!(rt; format!(in rt.alloc(); "{error}"));
-    assert_same!(rt; text.as_str(), "the file is not for RISC-V");
+    assert_text(rt, rt.alloc(), &error, "the file is not for RISC-V");
 }
 
 /// The machine's field is two bytes at 18 ("ELF Header"), where 62 is that of x86-64.
 #[test]
 fn keeps_the_field_that_is_wrong(rt: HostRuntime) {
-    let mut file = file_of(rt, rt.alloc(), elf_header(0x1_0000, 52, 3), &BEHIND);
-    *found!(rt; file.get_mut(18)) = 62;
-    let refusal = found!(rt; read_kept(rt.alloc(), &file).err());
+    let refusal = refusal(rt, rt.alloc(), 18, 62);
     assert_same!(rt; refusal.error, ElfError::BadMachine);
     let ElfEvidence::Field { offset, value, .. } = refusal.evidence else {
         panic!(rt; "no field");
@@ -87,9 +110,7 @@ fn keeps_the_field_that_is_wrong(rt: HostRuntime) {
 /// The header of the data is the second, which begins at byte 84; its address is set to that of the code.
 #[test]
 fn keeps_the_segments_that_overlap(rt: HostRuntime) {
-    let mut file = file_of(rt, rt.alloc(), elf_header(0x1_0000, 52, 3), &BEHIND);
-    *found!(rt; file.get_mut(94)) = 1;
-    let refusal = found!(rt; read_kept(rt.alloc(), &file).err());
+    let refusal = refusal(rt, rt.alloc(), 94, 1);
     assert_same!(rt; refusal.error, ElfError::SegmentsOverlap);
     let ElfEvidence::Overlap { first, second } = refusal.evidence else {
         panic!(rt; "no overlap");
@@ -101,34 +122,40 @@ fn keeps_the_segments_that_overlap(rt: HostRuntime) {
 }
 
 /// The segment of the data, in a file of 176 bytes, and that of the code.
-#[test]
-fn reads_headers_and_writes_numbers(rt: HostRuntime) {
-    let header = elf_header(0x1_0000, 52, 3);
-    assert_same!(rt; half_at(18, &header), 243);
-    assert_same!(rt; word_at(24, &header), 0x1_0000);
-    let data = ProgramHeader {
-        p_type: 1,
-        p_offset: 172,
-        p_vaddr: 0x2_0000,
-        p_filesz: 4,
-        p_memsz: 16,
-        p_flags: 6,
-    };
-    let code = ProgramHeader {
-        p_type: 1,
-        p_offset: 148,
-        p_vaddr: 0x1_0000,
-        p_filesz: 24,
-        p_memsz: 24,
-        p_flags: 5,
-    };
+const DATA: ProgramHeader = ProgramHeader {
+    p_type: 1,
+    p_offset: 172,
+    p_vaddr: 0x2_0000,
+    p_filesz: 4,
+    p_memsz: 16,
+    p_flags: 6,
+};
+
+const CODE: ProgramHeader = ProgramHeader {
+    p_type: 1,
+    p_offset: 148,
+    p_vaddr: 0x1_0000,
+    p_filesz: 24,
+    p_memsz: 24,
+    p_flags: 5,
+};
+
+fn expect_header(rt: impl Abort + Copy, data: &ProgramHeader, code: &ProgramHeader) {
     assert_same!(rt; data.is_segment(), true);
     assert_same!(rt; data.is_dynamic(), false);
     assert_same!(rt; data.is_out_of_file(176), false);
     assert_same!(rt; data.is_out_of_file(175), true);
     assert_same!(rt; data.is_out_of_place(), false);
-    assert_same!(rt; data.overlaps(&code), false);
+    assert_same!(rt; data.overlaps(code), false);
     assert_same!(rt; data.is_write_and_execute(), false);
+}
+
+#[test]
+fn reads_headers_and_writes_numbers(rt: HostRuntime) {
+    let header = elf_header(0x1_0000, 52, 3);
+    assert_same!(rt; half_at(18, &header), 243);
+    assert_same!(rt; word_at(24, &header), 0x1_0000);
+    expect_header(rt, &DATA, &CODE);
     let mut out = Vec::new(rt.alloc());
     given!(rt; put_half(&mut out, 0x0102));
     given!(rt; put_word(&mut out, 0x0304_0506));

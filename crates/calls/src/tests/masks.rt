@@ -6,6 +6,7 @@ use lane_masks::{
     slide_down, slide_one_down, slide_one_up, slide_up,
 };
 use rv_decode::{FirstOp, FoldOp, LogicOp};
+use std::process::Abort;
 
 const MASK: [bool; 6] = [false, true, false, true, false, false];
 
@@ -19,23 +20,15 @@ fn counts_finds_and_folds(rt: HostRuntime) {
     assert_same!(rt; out, [0, 0, 1, 1, 2, 2]);
     index(out.as_mut_slice());
     assert_same!(rt; out, [0, 1, 2, 3, 4, 5]);
-    let values = [1u8, 2, 0x80, 0xff, 5, 6];
-    assert_same!(rt;
-        fold(FoldOp::Sum, 10u8, values.as_slice(), MASK.as_slice()),
-        11
-    );
-    assert_same!(rt;
-        fold(FoldOp::Max, 0x80u8, values.as_slice(), MASK.as_slice()),
-        2
-    );
-    assert_same!(rt;
-        fold_extended(true, 10u16, values.as_slice(), MASK.as_slice()),
-        11
-    );
-    assert_same!(rt;
-        fold_extended(false, 10u16, values.as_slice(), MASK.as_slice()),
-        267
-    );
+    expect_folds(rt, &[1, 2, 0x80, 0xff, 5, 6], &MASK);
+}
+
+fn expect_folds(rt: impl Abort + Copy, values: &[u8; 6], mask: &[bool; 6]) {
+    let (values, mask) = (values.as_slice(), mask.as_slice());
+    assert_same!(rt; fold(FoldOp::Sum, 10u8, values, mask), 11);
+    assert_same!(rt; fold(FoldOp::Max, 0x80u8, values, mask), 2);
+    assert_same!(rt; fold_extended(true, 10u16, values, mask), 11);
+    assert_same!(rt; fold_extended(false, 10u16, values, mask), 267);
 }
 
 #[test]
@@ -70,7 +63,11 @@ fn moves_and_packs_elements(rt: HostRuntime) {
         values.as_mut_slice(),
     );
     assert_same!(rt; values, [4, 0, 0, 1]);
-    let mut values = [1u8, 2, 3, 4];
+    expect_one_moved(rt, source);
+}
+
+fn expect_one_moved(rt: impl Abort + Copy, source: [u8; 4]) {
+    let mut values = source;
     slide_one_up(7, values.as_mut_slice());
     assert_same!(rt; values, [7, 1, 2, 3]);
     slide_one_down(8, values.as_mut_slice());

@@ -29,42 +29,39 @@ fn step(
     }
 }
 
+/// Words that raise bytes, and what each gives. The first has no vector type yet.
+const RAISED: [(u32, Result<(), Fault>); 5] = [
+    (0x0281_3457, Err(Fault::Illegal(0x0281_3457))), // vadd.vi v8,v8,2
+    (0xcc01_f3d7, Ok(())), // vsetivli x7,3,e8,m1,ta,ma
+    (0x0205_0407, Ok(())), // vle8.v v8,(x10)
+    (0x0281_3457, Ok(())), // vadd.vi v8,v8,2
+    (0x0205_0427, Ok(())), // vse8.v v8,(x10)
+];
+
+/// Asserts that bytes are raised, and that two bytes of a last store may be written.
+fn assert_raised(rt: impl Abort + Copy, memory: &mut Regions, is_judged: bool) {
+    let mut vectors = VectorState::<16>::new(Agnostic::Ones);
+    let mut scalar = Scalar::new(0x1000);
+    scalar.set_reg(Reg::new(10), 0x2000);
+    for k in 0..RAISED.len() {
+        let (word, given) = RAISED[k];
+        assert_same!(rt; step(&mut vectors, &mut scalar, memory, word, is_judged), given);
+    }
+    assert_same!(rt; vectors.config(), Vconfig { vtype: 0xc0, vl: 3 });
+    assert_same!(rt; memory.load(0x2000, 4), Some(0xff00_0403));
+    assert_same!(rt; vectors.byte(Reg::new(8), 3), 0xff);
+    assert_same!(rt; scalar.pc(), 0x1010);
+    scalar.set_reg(Reg::new(10), 0x200e); // vse8.v v8,(x10)
+    let refused = step(&mut vectors, &mut scalar, memory, 0x0205_0427, is_judged);
+    assert_same!(rt; refused, Err(Fault::StoreFault(0x2010)));
+    assert_same!(rt; memory.byte(0x200e), Some(0x0f));
+    assert_same!(rt; vectors.into_registers().byte(Reg::new(8), 0), 3);
+}
+
 #[test]
 fn bytes_are_raised_in_memory(rt: HostRuntime) {
     for is_judged in [false, true] {
-        let mut memory = memory(rt, rt.alloc());
-        let mut vectors = VectorState::<16>::new(Agnostic::Ones);
-        let mut scalar = Scalar::new(0x1000);
-        scalar.set_reg(Reg::new(10), 0x2000);
-        // vadd.vi v8,v8,2 has no vector type yet.
-        let refused = step(
-            &mut vectors,
-            &mut scalar,
-            &mut memory,
-            0x0281_3457,
-            is_judged,
-        );
-        assert_same!(rt; refused, Err(Fault::Illegal(0x0281_3457)));
-        // vsetivli x7,3,e8,m1,ta,ma; vle8.v v8,(x10); vadd.vi v8,v8,2; vse8.v v8,(x10)
-        for word in [0xcc01_f3d7, 0x0205_0407, 0x0281_3457, 0x0205_0427] {
-            given!(rt; step(&mut vectors, &mut scalar, &mut memory, word, is_judged));
-        }
-        assert_same!(rt; vectors.config(), Vconfig { vtype: 0xc0, vl: 3 });
-        assert_same!(rt; memory.load(0x2000, 4), Some(0xff00_0403));
-        assert_same!(rt; vectors.byte(Reg::new(8), 3), 0xff);
-        assert_same!(rt; scalar.pc(), 0x1010);
-        // vse8.v v8,(x10): two of its bytes may be written.
-        scalar.set_reg(Reg::new(10), 0x200e);
-        let refused = step(
-            &mut vectors,
-            &mut scalar,
-            &mut memory,
-            0x0205_0427,
-            is_judged,
-        );
-        assert_same!(rt; refused, Err(Fault::StoreFault(0x2010)));
-        assert_same!(rt; memory.byte(0x200e), Some(0x0f));
-        assert_same!(rt; vectors.into_registers().byte(Reg::new(8), 0), 3);
+        assert_raised(rt, &mut memory(rt, rt.alloc()), is_judged);
     }
 }
 

@@ -3,6 +3,7 @@
 
 use crate::tests::assertions::assert_same;
 use rv_decode::*;
+use std::process::Abort;
 
 #[test]
 fn widths_and_operands(rt: HostRuntime) {
@@ -18,7 +19,11 @@ fn widths_and_operands(rt: HostRuntime) {
     }
     // vzext.vf4 reads elements of a quarter of SEW
     assert_same!(rt; Fraction::Quarter.eew(), Eew::Quarter);
-    // vmsltu.vx v1, v4, x9, v0.t
+    expect_operands(rt);
+}
+
+/// Those of vmsltu.vx v1, v4, x9, v0.t.
+fn expect_operands(rt: impl Abort + Copy) {
     let insn = Insn::VArith(VArith::Compare {
         op: CompareOp::Ltu,
         vd: Reg::new(1),

@@ -1,6 +1,6 @@
 //! Why runs are not started.
 use crate::tests::assertions::{assert_shows, found};
-use open_reasons::open_reason;
+use job_reasons::open_reason;
 use region_mem::{Arg, Args, Param, Parameters};
 use sandbox_run::OpenError;
 

@@ -1,7 +1,9 @@
 //! How certificates are read, written and made. Which bytes spell none is tried by `conformance`, on the rows of `checks.txt`.
 use crate::tests::assertions::{assert_same, found, given};
 use crate::tests::kernels::bytes_of;
-use cert_note::{Block, Certificate, Contents, OrderFact, Version, Vlen, read, write};
+use cert_note::{
+    Block, Certificate, Contents, OrderFact, RegisterFact, Version, Vlen, read, write,
+};
 use region_mem::{Param, Parameters};
 use sample_kernels::{Kernel, RAISE, RAISE_IF};
 use std::alloc::Global;
@@ -23,17 +25,24 @@ fn expect_loop(rt: impl Abort + Copy, block: &Block) {
     assert_same!(rt; (budget.second_factor, budget.second_register), (0, 0));
     assert_same!(rt; (block.vectors.len(), block.orders.len()), (0, 0));
     assert_same!(rt; block.registers.len(), LOOP.len());
-    for (place, expected) in LOOP {
+    for k in 0..LOOP.len() {
+        let (place, expected) = LOOP[k];
         let fact = found!(rt; block.registers.as_slice().get(place));
         let came = (fact.number, fact.low, fact.high, fact.equality.is_some());
         assert_same!(rt; came, expected);
     }
-    let place = found!(rt; block.registers.as_slice().get(1));
-    let sum = found!(rt; place.equality.as_ref());
-    assert_same!(rt; (sum.constant, sum.terms.len()), (0x4000_0000, 2));
-    for (place, expected) in [(0, (11, 0xffff_fffc)), (1, (34, 4))] {
-        let term = found!(rt; sum.terms.as_slice().get(place));
-        assert_same!(rt; (term.atom, term.coefficient), expected);
+    expect_sum(rt, found!(rt; block.registers.as_slice().get(1)));
+}
+
+/// The terms of the sum: an atom and its coefficient.
+const TERMS: [(u8, u32); 2] = [(11, 0xffff_fffc), (34, 4)];
+
+fn expect_sum(rt: impl Abort + Copy, fact: &RegisterFact) {
+    let sum = found!(rt; fact.equality.as_ref());
+    assert_same!(rt; (sum.constant, sum.terms.len()), (0x4000_0000, TERMS.len()));
+    for k in 0..TERMS.len() {
+        let term = found!(rt; sum.terms.as_slice().get(k));
+        assert_same!(rt; (term.atom, term.coefficient), TERMS[k]);
     }
 }
 

@@ -6,6 +6,7 @@ ghost use Rattle.std.specs.Prelude.{◌≡◌, ◌≤◌, length};
 use crate::tests::assertions::{assert_same, given};
 use crate::tests::kernels::accepted;
 use crate::tests::sessions::args;
+use block_checker::Accepted;
 use cert_note::Vlen;
 use monitor::{Flow, MonError, Monitor};
 use rv_listing::{Failed, Outlet, Over, Piece, Sink, Stream, print, put_all, put_listing};
@@ -83,18 +84,28 @@ impl Outlet for Buffered {
 
 #[test]
 fn what_is_printed_is_passed_on(rt: HostRuntime) {
-    for (fails, result, passed) in [(false, Ok(()), 2), (true, Err(Failed), 0)] {
-        let mut out = Over::new(Buffered {
-            held: Vec::new(rt.alloc()),
-            passed: 0,
-            fails,
-        });
-        assert_same!(rt; print(&mut out, b"ab".as_slice()), result);
-        assert_same!(rt; out.pass_on(), result);
-        let buffered = out.into_inner();
-        assert_same!(rt; buffered.held.as_slice(), b"ab".as_slice());
-        assert_same!(rt; buffered.passed, passed);
-    }
+    expect_passed(rt, rt.alloc(), false, Ok(()), 2);
+    expect_passed(rt, rt.alloc(), true, Err(Failed), 0);
+}
+
+/// Asserts what is passed on where the flush fails or not.
+fn expect_passed(
+    rt: impl Abort + Copy,
+    alloc: Global,
+    fails: bool,
+    expected: Result<(), Failed>,
+    passed: usize,
+) {
+    let mut out = Over::new(Buffered {
+        held: Vec::new(alloc),
+        passed: 0,
+        fails,
+    });
+    assert_same!(rt; print(&mut out, b"ab".as_slice()), expected);
+    assert_same!(rt; out.pass_on(), expected);
+    let buffered = out.into_inner();
+    assert_same!(rt; buffered.held.as_slice(), b"ab".as_slice());
+    assert_same!(rt; buffered.passed, passed);
 }
 
 #[test]
@@ -157,14 +168,15 @@ fn assert_cut(
     room: usize,
 ) {
     let mut told = 0usize;
-    for (line, text) in STRIPS {
+    for k in 0..STRIPS.len() {
+        let (line, text) = STRIPS[k];
         told = told.saturating_add(text.len());
-        let answer = monitor.command(line, out);
-        if told <= room {
-            assert_same!(rt; answer, Ok(Flow::Go));
+        let expected = if told <= room {
+            Ok(Flow::Go)
         } else {
-            assert_same!(rt; answer, Err(MonError::Write));
-        }
+            Err(MonError::Write)
+        };
+        assert_same!(rt; monitor.command(line, out), expected);
     }
 }
 
@@ -207,15 +219,24 @@ fn assert_whole_run(
 fn a_failure_cuts_the_text_alone(rt: HostRuntime) {
     let alloc = rt.alloc();
     let accepted = accepted(rt, alloc, RAISE, Vlen::V128);
-    let mut whole = Vec::new(alloc);
-    for (_, text) in STRIPS {
-        given!(rt; whole.extend_from_slice(text.as_bytes()));
-    }
-    let whole = whole.as_slice();
+    let whole = whole_text(rt, alloc);
     for room in 0..=whole.len() {
-        let args = args(rt, alloc, Some(4096), 9, None);
-        let opened = Session::<16>::open(alloc, &accepted, args, Agnostic::Keep, 8194);
-        let mut session = given!(rt; opened);
-        assert_whole_run(rt, alloc, &mut session, whole, room);
+        let mut session = opened(rt, alloc, &accepted);
+        assert_whole_run(rt, alloc, &mut session, whole.as_slice(), room);
     }
+}
+
+/// The texts of the strips, one behind the other.
+fn whole_text(rt: impl Abort + Copy, alloc: Global) -> Vec<u8> {
+    let mut whole = Vec::new(alloc);
+    for k in 0..STRIPS.len() {
+        given!(rt; whole.extend_from_slice(STRIPS[k].1.as_bytes()));
+    }
+    whole
+}
+
+/// A session of the loop over nine words.
+fn opened(rt: impl Abort + Copy, alloc: Global, accepted: &Accepted) -> Session<16> {
+    let args = args(rt, alloc, Some(4096), 9, None);
+    given!(rt; Session::<16>::open(alloc, accepted, args, Agnostic::Keep, 8194))
 }

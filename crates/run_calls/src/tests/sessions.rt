@@ -43,8 +43,25 @@ pub(crate) fn args(
     }
 }
 
-/// The first word of the code, the last byte of the buffer, and the last register, and then each step of a run over one byte:
-/// how many have been made, and where the run is then.
+/// How many steps have been made, and where the run is then.
+const STEPS: [(u64, u32); 7] = [
+    (1, 0x1_0004),
+    (2, 0x1_0008),
+    (3, 0x1_000c),
+    (4, 0x1_0010),
+    (5, 0x1_0014),
+    (6, 0x1_0018),
+    (7, 0xffff_fff0),
+];
+
+fn assert_step(rt: impl Abort + Copy, session: &mut Session<16>, steps: u64, pc: u32) {
+    assert_same!(rt; session.step(), Some(()));
+    assert_same!(rt; (session.steps(), session.pc()), (steps, pc));
+    assert_same!(rt; session.registers().pc, pc);
+    session.stands();
+}
+
+/// The first word of the code, the last byte of the buffer, and the last register, and then each step of a run over one byte.
 fn assert_steps(rt: impl Abort + Copy, session: &mut Session<16>) {
     assert_same!(rt; session.is_ended(), false);
     assert_same!(rt; session.fetch(0x1_0000), Some(0x0005_8c63));
@@ -52,19 +69,9 @@ fn assert_steps(rt: impl Abort + Copy, session: &mut Session<16>) {
     assert_same!(rt; session.peek(0x4000_03ff), Some(3));
     assert_same!(rt; session.peek(0x4000_0400), None);
     assert_same!(rt; session.vector(Reg::new(31)), [0; 16].as_slice());
-    for (steps, pc) in [
-        (1, 0x1_0004),
-        (2, 0x1_0008),
-        (3, 0x1_000c),
-        (4, 0x1_0010),
-        (5, 0x1_0014),
-        (6, 0x1_0018),
-        (7, 0xffff_fff0),
-    ] {
-        assert_same!(rt; session.step(), Some(()));
-        assert_same!(rt; (session.steps(), session.pc()), (steps, pc));
-        assert_same!(rt; session.registers().pc, pc);
-        session.stands();
+    for k in 0..STEPS.len() {
+        let (steps, pc) = STEPS[k];
+        assert_step(rt, session, steps, pc);
     }
     assert_same!(rt; session.is_ended(), true);
     assert_same!(rt; session.step(), None);

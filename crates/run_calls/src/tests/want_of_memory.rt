@@ -115,11 +115,8 @@ fn is_image_read(
     true
 }
 
-/// A list of segments, the bytes of two, and those of the certificate. For a file with wrong flags the fault is answered before
-/// any memory is asked for, whichever allocation would be refused.
-#[test]
-fn reading_an_image(rt: HostRuntime) {
-    let alloc = rt.alloc();
+/// For a file with wrong flags the fault is answered before any memory is asked for, whichever allocation would be refused.
+fn expect_bad_flags(rt: impl Abort + Copy, alloc: Global) {
     let mut bad = file(rt, alloc);
     put(rt, &mut bad, 36, &[1]);
     for after in 0..MANY {
@@ -127,6 +124,13 @@ fn reading_an_image(rt: HostRuntime) {
         assert_same!(rt; elf_image::read(&heap, &bad).err(), Some(ElfError::BadFlags));
         assert_same!(rt; heap.has_refused(), false);
     }
+}
+
+/// A list of segments, the bytes of two, and those of the certificate.
+#[test]
+fn reading_an_image(rt: HostRuntime) {
+    let alloc = rt.alloc();
+    expect_bad_flags(rt, alloc);
     let file = file(rt, alloc);
     let certificate = certificate(rt, alloc);
     until_served(rt, alloc, |heap, after| {
@@ -155,25 +159,31 @@ fn is_attached(
     true
 }
 
-/// The bytes of the file that is written. The one that is read stays as it is. For files that are given no certificate the
-/// reason is answered before any memory is asked for, whichever allocation would be refused.
+/// Asserts that a file is given no certificate. The reason is answered before any memory is asked for, whichever allocation
+/// would be refused.
+fn expect_unattached(rt: impl Abort + Copy, alloc: Global, file: &[u8], fault: ElfError) {
+    for after in 0..MANY {
+        let heap = Refusing::new(alloc, after);
+        assert_same!(rt; attach(&heap, file, b"any").err(), Some(fault));
+        assert_same!(rt; heap.has_refused(), false);
+    }
+}
+
+/// Files that are given no certificate.
+#[test]
+fn attaching_nothing(rt: HostRuntime) {
+    let alloc = rt.alloc();
+    let mut large = file_of(rt, alloc, SUM.code);
+    given!(rt; large.resize(4 << 20, 0));
+    expect_unattached(rt, alloc, b"\x7fELF", ElfError::TooShort);
+    expect_unattached(rt, alloc, &large, ElfError::TooLarge);
+    expect_unattached(rt, alloc, &file(rt, alloc), ElfError::CertificateThere);
+}
+
+/// The bytes of the file that is written. The one that is read stays as it is.
 #[test]
 fn attaching(rt: HostRuntime) {
     let alloc = rt.alloc();
-    let certified = file(rt, alloc);
-    let mut large = file_of(rt, alloc, SUM.code);
-    given!(rt; large.resize(4 << 20, 0));
-    for after in 0..MANY {
-        let heap = Refusing::new(alloc, after);
-        for (file, fault) in [
-            (b"\x7fELF".as_slice(), ElfError::TooShort),
-            (large.as_slice(), ElfError::TooLarge),
-            (certified.as_slice(), ElfError::CertificateThere),
-        ] {
-            assert_same!(rt; attach(&heap, file, b"any").err(), Some(fault));
-            assert_same!(rt; heap.has_refused(), false);
-        }
-    }
     let bare = file_of(rt, alloc, SUM.code);
     let certificate = certificate(rt, alloc);
     until_served(rt, alloc, |heap, after| {
@@ -281,7 +291,17 @@ fn is_made(
     true
 }
 
-/// The list of blocks. The other parameters have a first buffer of one byte less than the loop of `RAISE` needs.
+/// These parameters, but with a first buffer of one byte less than the loop of `RAISE` needs.
+fn shorter(rt: impl Abort + Copy, parameters: &Parameters) -> Parameters {
+    let mut params = parameters.to_array();
+    params[0] = Param::Buffer {
+        mode: Mode::ReadWrite,
+        size: 63,
+    };
+    found!(rt; Parameters::new(params))
+}
+
+/// The list of blocks.
 #[test]
 fn making_a_certificate(rt: HostRuntime) {
     let alloc = rt.alloc();
@@ -291,12 +311,7 @@ fn making_a_certificate(rt: HostRuntime) {
     let parameters = given!(rt; cert_note::read(alloc, by_hand))
         .contents()
         .parameters;
-    let mut params = parameters.to_array();
-    params[0] = Param::Buffer {
-        mode: Mode::ReadWrite,
-        size: 63,
-    };
-    let short = found!(rt; Parameters::new(params));
+    let short = shorter(rt, &parameters);
     until_served(rt, alloc, |heap, after| {
         expect_unmade(rt, heap, &image, &short);
         is_made(rt, alloc, heap, after, &image, &parameters, by_hand)

@@ -10,7 +10,7 @@ use crate::tests::want_of_memory::{Heap, MANY, served, until_served};
 use abs_state::{Abstract, MOST_WORDS, implies};
 use block_checker::{CheckError, check_in};
 use cert_note::{Certificate, Vlen, write};
-use elf_image::Image;
+use elf_image::{Image, Segment};
 use rv_decode::decode;
 use sample_kernels::{Kernel, STORE, SUM};
 use std::alloc::Global;
@@ -159,15 +159,18 @@ fn said(rt: impl Abort + Copy, alloc: Global, image: &Image, certificate: &Certi
     given!(rt; said.push(u8::from(note.is_some())));
     given!(rt; said.extend_from_slice(note.unwrap_or(&[])));
     for segment in image.segments() {
-        let rights = segment.rights();
-        given!(rt; said.extend_from_slice(&segment.address().to_le_bytes()));
-        given!(rt; said.extend_from_slice(&segment.memory_size().to_le_bytes()));
-        given!(rt; said.push(u8::from(rights.read)));
-        given!(rt; said.push(u8::from(rights.write)));
-        given!(rt; said.push(u8::from(rights.execute)));
-        given!(rt; said.extend_from_slice(segment.bytes()));
+        say_segment(rt, &mut said, segment);
     }
     said
+}
+
+fn say_segment(rt: impl Abort + Copy, said: &mut Vec<u8>, segment: &Segment) {
+    let rights = segment.rights();
+    given!(rt; said.extend_from_slice(&segment.address().to_le_bytes()));
+    given!(rt; said.extend_from_slice(&segment.memory_size().to_le_bytes()));
+    let rights = [rights.read, rights.write, rights.execute].map(u8::from);
+    given!(rt; said.extend_from_slice(&rights));
+    given!(rt; said.extend_from_slice(segment.bytes()));
 }
 
 /// Asserts that they say what they said before.

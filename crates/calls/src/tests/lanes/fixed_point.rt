@@ -1,6 +1,7 @@
 //! The fixed-point kernels.
 ghost use Rattle.std.specs.Prelude.{◌≤◌};
 
+use crate::tests::assertions::assert_same;
 use crate::tests::lanes::lengths::{LENGTHS, MOST, bits, bytes, halves, numbers};
 use lane_fixed::{FixedLane, RoundingMode, clip, compute};
 use rv_decode::{ClipOp, FixedOp};
@@ -63,31 +64,33 @@ fn try_operation<T: FixedLane + PartialEq>(
 )
     requires { n ≤ 512 }
 {
-    let first = *a;
-    let mut room = first;
-    let values = &mut room[..];
-    let (a, b, active) = (&a[..], &b[..], &active[..]);
+    let mut values = *a;
     let saturated = compute(op, mode, &mut values[..n], &b[..n], &active[..n]);
+    let mut ones = *a;
+    let is_any = compute_ones(op, mode, &mut ones, b, active, n);
+    assert_same!(rt; saturated, is_any);
+    assert_same!(rt; &values[..], &ones[..]);
+}
+
+/// Computes the elements one by one, over what they are, and tells whether an active one saturates.
+fn compute_ones<T: FixedLane>(
+    op: FixedOp,
+    mode: RoundingMode,
+    values: &mut [T; MOST],
+    b: &[T; MOST],
+    active: &[bool; MOST],
+    n: usize,
+) -> bool
+    requires { n ≤ 512 }
+{
+    let (values, b, active) = (&mut values[..], &b[..], &active[..]);
     let mut is_any = false;
-    let mut ones = first;
-    let each = &mut ones[..];
     for i in 0..n {
-        let is_clipped = compute(
-            op,
-            mode,
-            &mut each[i..i + 1],
-            &b[i..i + 1],
-            &active[i..i + 1],
-        );
-        is_any = is_any || is_clipped;
+        let (one, b, active) = (&mut values[i..i + 1], &b[i..i + 1], &active[i..i + 1]);
+        let saturates = compute(op, mode, one, b, active);
+        is_any = is_any || saturates;
     }
-    for i in 0..MOST {
-        assert!(rt; values[i] == each[i], "a fixed-point element of a length");
-    }
-    assert!(rt;
-        saturated == is_any,
-        "whether an element of a length saturates"
-    );
+    is_any
 }
 
 /// Each clip at each length and in each mode, masked and not.
@@ -119,27 +122,32 @@ fn try_clip<W: FixedLane, N: FixedLane + PartialEq>(
 )
     requires { n ≤ 512 }
 {
-    let first = *b;
-    let mut room = first;
-    let results = &mut room[..];
-    let (a, b, active) = (&a[..], &b[..], &active[..]);
+    let mut results = *b;
     let saturated = clip(op, mode, &a[..n], &b[..n], &active[..n], &mut results[..n]);
+    let mut ones = *b;
+    let is_any = clip_ones(op, mode, a, b, active, &mut ones, n);
+    assert_same!(rt; saturated, is_any);
+    assert_same!(rt; &results[..], &ones[..]);
+}
+
+/// Clips the elements one by one, and tells whether an active one saturates.
+fn clip_ones<W: FixedLane, N: FixedLane>(
+    op: ClipOp,
+    mode: RoundingMode,
+    a: &[W; MOST],
+    b: &[N; MOST],
+    active: &[bool; MOST],
+    ones: &mut [N; MOST],
+    n: usize,
+) -> bool
+    requires { n ≤ 512 }
+{
+    let (a, b, active, ones) = (&a[..], &b[..], &active[..], &mut ones[..]);
     let mut is_any = false;
-    let mut ones = first;
-    let each = &mut ones[..];
     for i in 0..n {
-        let is_clipped = clip(
-            op,
-            mode,
-            &a[i..i + 1],
-            &b[i..i + 1],
-            &active[i..i + 1],
-            &mut each[i..i + 1],
-        );
-        is_any = is_any || is_clipped;
+        let (a, b, active) = (&a[i..i + 1], &b[i..i + 1], &active[i..i + 1]);
+        let saturates = clip(op, mode, a, b, active, &mut ones[i..i + 1]);
+        is_any = is_any || saturates;
     }
-    for i in 0..MOST {
-        assert!(rt; results[i] == each[i], "a clipped element of a length");
-    }
-    assert!(rt; saturated == is_any, "whether a clip of a length saturates");
+    is_any
 }

@@ -1,6 +1,7 @@
 //! The integer kernels.
 ghost use Rattle.std.specs.Prelude.{◌≤◌};
 
+use crate::tests::assertions::assert_same;
 use crate::tests::lanes::lengths::{LENGTHS, MOST, bytes, halves, numbers};
 use lane_int::{Lane, compare, compute, multiply_add};
 use rv_decode::{CompareOp, IntOp, MultiplyAddOp};
@@ -85,18 +86,13 @@ fn try_operation<T: Lane + PartialEq>(
 )
     requires { n ≤ 512 }
 {
-    let mut room = *a;
-    let values = &mut room[..];
-    let (a, b) = (&a[..], &b[..]);
+    let mut values = *a;
     compute(op, &mut values[..n], &b[..n]);
-    for i in 0..MOST {
-        let expected = if i < n {
-            T::int_result(op, a[i], b[i])
-        } else {
-            a[i]
-        };
-        assert!(rt; values[i] == expected, "an element of a length");
+    let mut expected = *a;
+    for i in 0..n {
+        expected[i] = T::int_result(op, a[i], b[i]);
     }
+    assert_same!(rt; &values[..], &expected[..]);
 }
 
 fn try_compare<T: Lane>(
@@ -109,12 +105,12 @@ fn try_compare<T: Lane>(
     requires { n ≤ 512 }
 {
     let mut bits = [false; MOST];
-    let (a, b) = (&a[..], &b[..]);
     compare(op, &a[..n], &b[..n], &mut bits[..n]);
-    for i in 0..MOST {
-        let expected = i < n && T::int_test(op, a[i], b[i]);
-        assert!(rt; bits[i] == expected, "a bit of a length");
+    let mut expected = [false; MOST];
+    for i in 0..n {
+        expected[i] = T::int_test(op, a[i], b[i]);
     }
+    assert_same!(rt; bits.as_slice(), &expected[..]);
 }
 
 fn try_multiply_add<T: Lane + PartialEq>(
@@ -127,16 +123,11 @@ fn try_multiply_add<T: Lane + PartialEq>(
 )
     requires { n ≤ 512 }
 {
-    let mut room = *d;
-    let values = &mut room[..];
-    let (a, b, d) = (&a[..], &b[..], &d[..]);
+    let mut values = *d;
     multiply_add(op, &a[..n], &b[..n], &mut values[..n]);
-    for i in 0..MOST {
-        let expected = if i < n {
-            T::multiply_add(op, a[i], b[i], d[i])
-        } else {
-            d[i]
-        };
-        assert!(rt; values[i] == expected, "a product and a sum of a length");
+    let mut expected = *d;
+    for i in 0..n {
+        expected[i] = T::multiply_add(op, a[i], b[i], d[i]);
     }
+    assert_same!(rt; &values[..], &expected[..]);
 }

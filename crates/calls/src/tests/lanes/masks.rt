@@ -1,6 +1,7 @@
 //! Mask logic.
 ghost use Rattle.std.specs.Prelude.{◌≤◌};
 
+use crate::tests::assertions::assert_same;
 use crate::tests::lanes::lengths::{LENGTHS, MOST, bits};
 use lane_masks::combine;
 use rv_decode::LogicOp;
@@ -30,15 +31,18 @@ fn bits_at_each_length(rt: HostRuntime) {
 fn try_combine(rt: impl Abort + Copy, op: LogicOp, a: &[bool; MOST], b: &[bool; MOST], n: usize)
     requires { n ≤ 512 }
 {
-    let mut room = *a;
-    let values = &mut room[..];
-    let (a, b) = (&a[..], &b[..]);
+    let mut values = *a;
     combine(op, &mut values[..n], &b[..n]);
-    for i in 0..MOST {
-        // The call on one bit.
-        let mut one = [a[i]];
-        combine(op, one.as_mut_slice(), [b[i]].as_slice());
-        let expected = if i < n { one[0] } else { a[i] };
-        assert!(rt; values[i] == expected, "a bit of a length");
+    let mut expected = *a;
+    for i in 0..n {
+        expected[i] = combine_one(op, a[i], b[i]);
     }
+    assert_same!(rt; values.as_slice(), expected.as_slice());
+}
+
+/// The call on one bit.
+fn combine_one(op: LogicOp, a: bool, b: bool) -> bool {
+    let mut one = [a];
+    combine(op, one.as_mut_slice(), [b].as_slice());
+    one[0]
 }

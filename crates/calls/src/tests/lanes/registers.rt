@@ -5,6 +5,7 @@ ghost use Rattle.rv_decode.specs.declared.extents.Eew.TheVariants.{Same};
 ghost use Rattle.vreg_groups.specs.Group.{IsGroupInside};
 ghost use Rattle.vreg_groups.specs.Setup.{IsSetup};
 
+use crate::tests::assertions::assert_same;
 use crate::tests::lanes::fixed_point::{FIXED_OPERATIONS, MODES};
 use crate::tests::lanes::integers::{MULTIPLY_ADDS, OPERATIONS};
 use crate::tests::lanes::lengths::{LENGTHS, MOST, bytes};
@@ -15,24 +16,31 @@ use rv_decode::{FixedOp, IntOp, MultiplyAddOp, Reg, Width};
 use std::process::Abort;
 use vreg_groups::{Agnostic, Element, Lmul, Setup, VregFile, Vtype};
 
+/// Whether an operation is masked, and what becomes of the elements that are not written.
+const CASES: [(bool, Agnostic); 3] = [
+    (false, Agnostic::Keep),
+    (true, Agnostic::Keep),
+    (true, Agnostic::Ones),
+];
+
 /// Elements of one width. A group has `$most` of them at VLEN 512.
 macro_rules! try_width {
     ($rt:ident, $element:ident, $width:ident, $most:literal) => {
-        for k in 0..LENGTHS.len() {
-            let mut setup = Setup {
-                vtype: Vtype {
-                    sew: Width::$width,
-                    lmul: Lmul::Eight,
-                    vta: true,
-                    vma: true,
-                },
-                vl: LENGTHS[k].min($most),
-                agnostic: Agnostic::Keep,
-            };
-            try_operations::<$element>(&$rt, &setup, false, &[0; MOST], $most);
-            try_operations::<$element>(&$rt, &setup, true, &[0; MOST], $most);
-            setup.agnostic = Agnostic::Ones;
-            try_operations::<$element>(&$rt, &setup, true, &[0; MOST], $most);
+        for c in 0..CASES.len() {
+            let (masked, agnostic) = CASES[c];
+            for k in 0..LENGTHS.len() {
+                let setup = Setup {
+                    vtype: Vtype {
+                        sew: Width::$width,
+                        lmul: Lmul::Eight,
+                        vta: true,
+                        vma: true,
+                    },
+                    vl: LENGTHS[k].min($most),
+                    agnostic,
+                };
+                try_operations::<$element>(&$rt, &setup, masked, &[0; MOST], $most);
+            }
         }
     };
 }
@@ -118,39 +126,65 @@ fn try_group<E: ByteLane + Element + FixedLane + PartialEq>(
     requires vs1_inside { IsGroupInside setup.now.vtype 24 Same }
 {
     let mut registers = registers();
-    let (vd, vs2, vs1) = (Reg::new(8), Reg::new(16), Reg::new(24));
-    let (mut a, mut b) = (*blank, *blank);
-    let (mut old, mut new) = (*blank, *blank);
-    let a = &mut a[..];
-    let b = &mut b[..];
-    let old = &mut old[..];
-    let new = &mut new[..];
-    registers.read_group(vs2, &mut a[..most]);
-    registers.read_group(vs1, &mut b[..most]);
-    registers.read_group(vd, &mut old[..most]);
+    let mut a = group(&registers, Reg::new(16), blank, most);
+    let b = group(&registers, Reg::new(24), blank, most);
+    let mut expected = group(&registers, Reg::new(8), blank, most);
     let answer = run::<E>(&mut registers, setup, op, masked);
-    assert!(rt;
-        answer.is_some() == can_be_done(op),
-        "which operations are done"
-    );
-    let is_written = answer.is_some() && setup.vl != 0;
-    registers.read_group(vd, &mut new[..most]);
+    assert_same!(rt; answer.is_some(), can_be_done(op));
+    if let Some(saturated) = answer {
+        let values = &mut expected;
+        let is_any = compute_each(op, setup, masked, &registers, &mut a, &b, values, most);
+        assert_same!(rt; saturated, is_any);
+    }
+    let values = group(&registers, Reg::new(8), blank, most);
+    assert_same!(rt; &values[..], &expected[..]);
+}
+
+/// The elements of the group that begins at `first`.
+fn group<E: Element>(
+    registers: &VregFile<64>,
+    first: Reg,
+    blank: &[E; MOST],
+    most: usize,
+) -> [E; MOST]
+    requires first { first ≤ 24 }
+    requires room { E.SIZE * most ≤ 512 }
+    requires few { most ≤ 512 }
+{
+    let mut elements = *blank;
+    registers.read_group(first, &mut elements[..most]);
+    elements
+}
+
+/// Computes the elements of vd one by one, over what they are and over `a`. Tells whether an active one saturates. None
+/// is written where vl is 0.
+fn compute_each<E: Element + Lane + FixedLane>(
+    op: Tried,
+    setup: &Setup,
+    masked: bool,
+    registers: &VregFile<64>,
+    a: &mut [E; MOST],
+    b: &[E; MOST],
+    values: &mut [E; MOST],
+    most: usize,
+) -> bool
+    requires { most ≤ 512 }
+{
+    if setup.vl == 0 {
+        return false;
+    }
+    let (a, b) = (&mut a[..], &b[..]);
     let mut is_any = false;
     for i in 0..most {
-        let is_active = i < setup.vl && (!masked || registers.bit(Reg::new(0), i));
-        let saturates = compute_one(op, &mut a[i..i + 1], &b[i..i + 1], old[i]);
-        is_any = is_any || is_active && saturates;
-        let expected = if is_active {
-            a[i]
+        if i < setup.vl && (!masked || registers.bit(Reg::new(0), i)) {
+            let saturates = compute_one(op, &mut a[i..i + 1], &b[i..i + 1], values[i]);
+            values[i] = a[i];
+            is_any = is_any || saturates;
         } else {
-            left(old[i], setup.agnostic)
-        };
-        let expected = if is_written { expected } else { old[i] };
-        assert!(rt; new[i] == expected, "an element of a group");
+            values[i] = left(values[i], setup.agnostic);
+        }
     }
-    if let Some(saturated) = answer {
-        assert!(rt; saturated == is_any, "whether a group saturates");
-    }
+    is_any
 }
 
 /// The call: vd is v8, vs2 v16 and vs1 v24. Whether it saturated; None where it was not done.

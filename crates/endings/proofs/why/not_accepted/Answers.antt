@@ -1,12 +1,13 @@
--- Any other error is a refusal of the check, whose reason is kept.
+-- Any other error is a refusal of the check, whose reason is told.
 use Rattle.std.proofs.Common.{rules}
-use Rattle.endings.proofs.WhyLemmas.{check_kept}
+use Rattle.endings.specs.Why.{IsOfCheck}
+use Rattle.endings.proofs.WhyLemmas.{check_told, explained_as}
 use Rattle.endings.proofs.why.not_accepted.Goals as goal
 
-pub returns-in_default : goal.returns-in_default
-returns-in_default c = record {
+pub returns-in-Ok : goal.returns-in-Ok
+returns-in-Ok c = record {
   stop = search rules;
-  told = check_kept c.args.refused.now.image c.args.refused.now.certificate c.args.vlen c.args.refused.now.error c.maybe.result.error c.args.refused.now.stop
-      c.reason_of.result c.ok-reason.result c.maybe.result.reason c.requires c.ok-reason.ensures.value c.maybe.ensures.reason c.maybe.ensures.error
-      c.reason_of.ensures.explanation c.reason_of.ensures.listing c.reason_of.ensures.wanted;
+  told = explained_as c.explained.result _ (IsOfCheck c.args.refused.now.image c.args.refused.now.certificate c.args.vlen) c.explained.ensures.kept
+      (check_told c.args.refused.now.image c.args.refused.now.certificate c.args.vlen c.args.refused.now.error c.args.refused.now.stop c.in-Ok.reason
+      c.requires c.in-Ok.ensures.explanation c.in-Ok.ensures.listing c.in-Ok.ensures.wanted);
 }

@@ -2,7 +2,7 @@
 use Rattle.std.proofs.Common.{◌≡◌, None, sym}
 use Rattle.elf_image.specs.Faults.{fault_of}
 use Rattle.elf_image.specs.File.{image_of}
-use Rattle.rvvbox_c.specs.Forms.{eight}
+use Rattle.rvvbox_c.specs.Forms.{bytes_of}
 use Rattle.rvvbox_c.proofs.TryLemmas.{no_fault, none_before, try_of, where_none}
 use Rattle.rvvbox_c.proofs.tries.performed.Goals as goal
 
@@ -12,8 +12,7 @@ returns-clause-tried c =
     let is : c.in_ok-image.image ≡ image_of c.args.file.now =
     where_none (c.in_ok-image.image ≡ image_of c.args.file.now) _ faultless c.in_ok-image.ensures.image in
     try_of c.args.file.now c.args.setting.now c.args.forms.now
-    (eight c.args.r0.now c.args.r1.now c.args.r2.now c.args.r3.now c.args.r4.now c.args.r5.now c.args.r6.now c.args.r7.now)
-    (eight c.args.b0.now c.args.b1.now c.args.b2.now c.args.b3.now c.args.b4.now c.args.b5.now c.args.b6.now c.args.b7.now)
+    (bytes_of c.args.reads.now) (bytes_of c.args.puts.now)
     c.in_ok-vlen.vlen c.in_ok-vlen.agnostic _ _ faultless is c.in_ok-vlen.ensures.vlen c.in_ok-vlen.ensures.agnostic c.tried_on.ensures.tried
 
 pub returns-clause-refused : goal.returns-clause-refused
