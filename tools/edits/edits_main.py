@@ -11,18 +11,20 @@ check after N processor minutes; without --minutes, half a minute for each of th
 or a row no pair, and where the table is to be written anew. Pairs that it did not come to count as not tried.
 
 Both work on a copy of the repository, and begin with what `rt check` has kept. With RT_JOBS=N, N crates are tried side by
-side; where there are fewer, the many pairs of one are tried in several copies. Status: 0 where each pair is refused; 1 where one is not, or was not tried, or where the second form finds a row or a
-pair alone; 2 for a wrong call.
+side; where there are fewer, the many pairs of one are tried in several copies. Rows are written behind each round of pairs, so that
+a call that is ended loses one round. Status: 0 where each pair is refused; 1 where one is not, or was not tried, or where
+the second form finds a row or a pair alone; 2 for a wrong call.
 """
 import argparse
 import fcntl
 import os
 import sys
 from concurrent.futures import ThreadPoolExecutor, as_completed
+from functools import partial
 
 from pairs import EditError, read_pairs
 from record import RecordError, own_texts, read_table, renewed, sum_of, with_table
-from rounds import ROOT, Minutes, crates_of, try_pairs
+from rounds import ROOT, Minutes, Tried, crates_of, try_pairs
 
 DOCUMENT = ROOT / "docs" / "EDITS.md"
 # The processor minutes that the gate gives to each pair that it tries anew.
@@ -85,11 +87,12 @@ def parts(chosen, rooms):
         yield from ((name, of_crate[first::count]) for first in range(count))
 
 
-def try_all(chosen, crates, minutes):
-    """Tries the pairs of each crate, in as many copies side by side as RT_JOBS says, and gives what came of each as it ends."""
+def try_all(chosen, crates, minutes, keep):
+    """Tries the pairs of each crate, in as many copies side by side as RT_JOBS says, and gives what came of each as it ends. `keep`
+    is called before with a crate's name and the goals found so far."""
     rooms = max(1, int(os.environ.get("RT_JOBS") or 1))
     with ThreadPoolExecutor(max_workers=rooms) as pool:
-        began = {pool.submit(try_pairs, name, of_part, crates, minutes): name for name, of_part in parts(chosen, rooms)}
+        began = {pool.submit(try_pairs, name, of_part, crates, minutes, partial(keep, name)): name for name, of_part in parts(chosen, rooms)}
         for it in as_completed(began):
             yield began[it], it.result()
 
@@ -155,7 +158,12 @@ def perform(call):
     chosen = differing(pairs, texts, table) if call.changed else wanted(call.names, pairs)
     minutes = Minutes(allowed(call, chosen))
     refused = 0
-    for name, tried in try_all(chosen, crates, minutes):
+
+    def keep(name, goals):
+        if call.write:
+            write(pairs, texts, [name], Tried(dict(goals), [], [], [], 0))
+
+    for name, tried in try_all(chosen, crates, minutes, keep):
         tell(name, tried, not call.changed and not call.write)
         refused += len(tried.goals)
         if call.write:

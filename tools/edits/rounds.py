@@ -115,10 +115,11 @@ def changed(pairs):
 
 
 class Rounds:
-    """The checks of a crate's copy: what stands in the folder `seed` is what the crate's own check kept."""
+    """The checks of a crate's copy: what stands in the folder `seed` is what the crate's own check kept. `keep` is called with
+    the goals found so far behind each round."""
 
-    def __init__(self, room, name, minutes):
-        self.crate, self.minutes = room / "crates" / name, minutes
+    def __init__(self, room, name, minutes, keep):
+        self.crate, self.minutes, self.keep = room / "crates" / name, minutes, keep
         self.kept, self.seed = self.crate / "out" / "incremental", room / "seed"
         self.goals, self.checks = {}, 1
         minutes.look()
@@ -155,6 +156,7 @@ class Rounds:
         for pair in pairs:
             if pair.name not in self.goals:
                 self.try_alone(pair)
+                self.keep(self.goals)
 
     def together(self, pairs):
         """The pairs that share the next check, at most MOST_TOGETHER, and their texts: no two change functions of one name in
@@ -177,6 +179,7 @@ class Rounds:
         while ahead:
             of_round, texts = self.together(ahead)
             before, waiting = len(self.goals), self.round(of_round, texts)
+            self.keep(self.goals)
             names = {pair.name for pair, _ in of_round}
             if len(self.goals) == before and names <= tried:
                 break
@@ -246,20 +249,21 @@ def ask_the_gate(room, name, pairs):
     return told
 
 
-def try_pairs(name, pairs, crates, minutes):
-    """Tries each of these pairs of the crate by itself, within the minutes."""
+def try_pairs(name, pairs, crates, minutes, keep):
+    """Tries each of these pairs of the crate by itself, within the minutes. `keep` is called with the goals found so far, so that
+    a call that is ended has not tried them in vain."""
     try:
         minutes.look()
         with tempfile.TemporaryDirectory(prefix="each-edit-") as folder:
             copy(Path(folder), name, crates)
-            return tried_in(Path(folder), name, pairs, minutes)
+            return tried_in(Path(folder), name, pairs, minutes, keep)
     except OutOfMinutes:
         return Tried({}, [], pairs, [], 0)
 
 
-def tried_in(room, name, pairs, minutes):
+def tried_in(room, name, pairs, minutes, keep):
     """Tries each of these pairs in the copy that stands in this folder."""
-    rounds = Rounds(room, name, minutes)
+    rounds = Rounds(room, name, minutes, keep)
     if rounds.status != 0:
         said = [*rounds.said.splitlines()[-20:], f"{name} is not proved as it stands"]
         return Tried({}, [], pairs, said, 1)

@@ -293,16 +293,33 @@ class Gate(WithCrate):
     def status(self, *words, goals=None, left=()):
         goals = {"adds_two": "src/lib.rt: next: returns", "takes_more": "src/lib.rt: returns"} if goals is None else goals
 
-        def tries(name, of_crate, crates, minutes):
+        def tries(name, of_crate, crates, minutes, keep):
             self.tried += [it.name for it in of_crate]
+            found = {it.name: goals[it.name] for it in of_crate if it.name in goals}
+            for it in found:
+                keep({it: found[it]})
+                self.rows.append(len(self.written()))
             missed = [it for it in of_crate if it.name not in goals and it not in left]
-            return rounds.Tried({it.name: goals[it.name] for it in of_crate if it.name in goals}, missed, list(left), [], 1)
+            return rounds.Tried(found, missed, list(left), [], 1)
 
-        self.tried = []
+        self.tried, self.rows = [], []
         with mock.patch.multiple(edits_main, ROOT=self.root, DOCUMENT=self.document, try_pairs=tries), mock.patch("builtins.print") as said:
             status = edits_main.main(list(words))
         self.said = "\n".join(" ".join(map(str, it.args)) for it in said.call_args_list)
         return status
+
+    def written(self):
+        return record.read_table(self.document.read_text()).get("low", {})
+
+    def test_rows_are_written_as_they_are_found(self):
+        self.document.write_text(record.with_table(self.document.read_text(), {}))
+        self.assertEqual(self.status("--write", "low"), 0)
+        self.assertEqual(self.rows, [1, 2])
+
+    def test_no_row_is_written_unasked(self):
+        self.document.write_text(record.with_table(self.document.read_text(), {}))
+        self.status("low")
+        self.assertEqual(self.rows, [0, 0])
 
     def test_nothing_is_tried_where_nothing_changed(self):
         self.assertEqual(self.status("--changed"), 0)
@@ -341,7 +358,7 @@ class Gate(WithCrate):
     def test_no_check_is_begun_without_minutes(self):
         with mock.patch("rounds.ROOT", self.root), mock.patch("rounds.run") as runs:
             (self.root / "HANDLES").write_text("Handles allowed: none.\n")
-            tried = rounds.try_pairs("low", pairs.read_pairs(self.crate), {"low": []}, rounds.Minutes(0))
+            tried = rounds.try_pairs("low", pairs.read_pairs(self.crate), {"low": []}, rounds.Minutes(0), lambda goals: None)
         self.assertEqual([it.name for it in tried.left], ["adds_two", "takes_more"])
         runs.assert_not_called()
 
@@ -402,7 +419,7 @@ class OfRounds(WithCrate):
     def rounds(self, *said):
         """The rounds of the crate, whose checks say these words one after another, and the texts that each was asked of."""
         made = object.__new__(rounds.Rounds)
-        made.crate, made.goals, self.asked = self.crate, {}, []
+        made.crate, made.goals, made.keep, self.asked = self.crate, {}, lambda goals: None, []
         words = iter(said)
         made.check = lambda texts, functions=(): self.asked.append(texts) or next(words)
         return made
