@@ -19,18 +19,18 @@ use Rattle.endings.specs.declared.stop.Stop.TheVariants as stop
 -- want of memory has no explanation
 unexplained : (w : Why) → stop_of_why w ≡ stop.Memory → ⊥
 unexplained (why.Job reason) is = cc
-unexplained (why.Parameters reason) is = cc
 unexplained (why.File path line) is = cc
 unexplained (why.Image told) is = cc
 unexplained (why.Attach told) is = cc
 unexplained (why.Certificate told) is = cc
 unexplained (why.Check told) is = cc
 unexplained (why.Make told) is = cc
-unexplained (why.Open told) is = cc
 
 pub memory_opened : (params : List Param) (args : List Argument) (bound max : ℕ) (h : Halt) → stop_of h ≡ stop.Memory
     → ExplainsOpened params args bound max h
-memory_opened params args bound max (halt.Plain s) is = tt
+memory_opened params args bound max (halt.Plain s) is = is
+memory_opened params args bound max (halt.Parameters reason) is = cc
+memory_opened params args bound max (halt.Unopened told) is = cc
 memory_opened params args bound max (halt.Explained kept) is = absurd (unexplained kept.value is)
 
 -- ---- refusals with what is known
@@ -43,15 +43,15 @@ image_of : (file : List ℕ) (error : ElfError) (w : Why) → IsOfRefusal (refus
 image_of file error (why.Image told) is = subst (λ (e : ElfError). told.reason.0 ≡ evidence_of file e) (sym is.0) is.1
 image_of file error (why.Attach told) is = absurd is
 image_of file error (why.Job reason) is = tt
-image_of file error (why.Parameters reason) is = tt
 image_of file error (why.File path line) is = tt
 image_of file error (why.Certificate told) is = tt
 image_of file error (why.Check told) is = tt
 image_of file error (why.Make told) is = tt
-image_of file error (why.Open told) is = tt
 
 image_told : (file : List ℕ) (error : ElfError) (h : Halt) → TellsImage (refusal_of file error) h → ExplainsImage file h
 image_told file error (halt.Plain s) told = tt
+image_told file error (halt.Parameters reason) told = absurd told
+image_told file error (halt.Unopened refusal) told = absurd told
 image_told file error (halt.Explained kept) told = image_of file error kept.value told
 
 -- and why there is no certificate of the loop in an image
@@ -59,18 +59,18 @@ loop_of : (params : List Param) (image : ImageView) (pc : ℕ) (w : Why) → IsO
     → IsOfLoop params image w
 loop_of params image pc (why.Make told) is =
     subst (λ (e : MakeError). IsMakeReason params image e told.reason) (sym is.0) is.1
-loop_of params image pc (why.Parameters reason) is = absurd is
 loop_of params image pc (why.Job reason) is = absurd is
 loop_of params image pc (why.Attach told) is = tt
 loop_of params image pc (why.Image told) is = tt
 loop_of params image pc (why.File path line) is = tt
 loop_of params image pc (why.Certificate told) is = tt
 loop_of params image pc (why.Check told) is = tt
-loop_of params image pc (why.Open told) is = tt
 
 loop_told : (params : List Param) (image : ImageView) (pc : ℕ) (h : Halt) → TellsLoop params (make_refusal.Misfit (misfit_at image pc)) h
     → ExplainsLoop params image h
-loop_told params image pc (halt.Plain s) told = tt
+loop_told params image pc (halt.Plain s) told = told
+loop_told params image pc (halt.Parameters reason) told = absurd told
+loop_told params image pc (halt.Unopened refusal) told = absurd told
 loop_told params image pc (halt.Explained kept) told = loop_of params image pc kept.value told
 
 -- the answer for a file that was not read explains why it is no image
@@ -85,17 +85,17 @@ image_explained A None file refusal h is none told =
 -- and of why no certificate was made
 memory_of : (params : List Param) (image : ImageView) (w : Why) → IsOfMisfit params make_refusal.NoMemory w → IsOfLoop params image w
 memory_of params image (why.Make told) is = absurd is.1
-memory_of params image (why.Parameters reason) is = absurd is
 memory_of params image (why.Job reason) is = absurd is
 memory_of params image (why.Attach told) is = tt
 memory_of params image (why.Image told) is = tt
 memory_of params image (why.File path line) is = tt
 memory_of params image (why.Certificate told) is = tt
 memory_of params image (why.Check told) is = tt
-memory_of params image (why.Open told) is = tt
 
 wanted_memory : (params : List Param) (image : ImageView) (h : Halt) → TellsLoop params make_refusal.NoMemory h → ExplainsLoop params image h
-wanted_memory params image (halt.Plain s) told = tt
+wanted_memory params image (halt.Plain s) told = told
+wanted_memory params image (halt.Parameters reason) told = absurd told
+wanted_memory params image (halt.Unopened refusal) told = absurd told
 wanted_memory params image (halt.Explained kept) told = memory_of params image kept.value told
 
 same_refusal : {A : Type 0} (a b : MakeRefusal) → ◌≡◌ {A = Result A MakeRefusal} (Err a) (Err b) → a ≡ b

@@ -24,7 +24,7 @@ use block_checker::Accepted;
 use cert_maker::make_kept;
 use cert_note::Certificate;
 use elf_image::{Image, attach};
-use endings::{Did, Halt, Status, Stop, Why, accept, not_attached, not_made};
+use endings::{Did, Halt, Status, Stop, accept, not_attached, not_made};
 use file_store::Store;
 use job_file::{MakeJob, make_job_in};
 use job_reasons::{Command, parameter_reason};
@@ -112,8 +112,7 @@ fn certificate_for<'a>(alloc: Global, job: &MakeJob, image: &Image) -> Result<Ce
     ensures told { IfErr result (ExplainsLoop job.now.params image.now) }
 {
     let Some(parameters) = Parameters::new(job.params) else {
-        let reason = parameter_reason(&job.params);
-        return Err(Halt::explained(alloc, Why::Parameters(reason)));
+        return Err(Halt::Parameters(parameter_reason(&job.params)));
     };
     match make_kept(alloc, image, &parameters, job.vlen) {
         Ok(certificate) => Ok(certificate),

@@ -224,6 +224,6 @@ fn mon_session<'a, const VLENB: usize, I: Source, O: Stream>(
             session.stands();
             Ok(session.close())
         }
-        Err((error, args)) => Err(not_opened(alloc, accepted, &args, job.max, error)),
+        Err((error, args)) => Err(not_opened(accepted, &args, job.max, error)),
     }
 }

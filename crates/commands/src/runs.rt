@@ -119,6 +119,6 @@ fn run_session<'a, const VLENB: usize>(
             let registers = session.registers();
             Ok(Trial::ended(steps, registers, VLENB, session.close()))
         }
-        Err((error, args)) => Err(not_opened(alloc, accepted, &args, job.max, error)),
+        Err((error, args)) => Err(not_opened(accepted, &args, job.max, error)),
     }
 }

@@ -21,7 +21,7 @@ use crate::files::{read_args, read_image};
 use crate::starts::{on_table, taken};
 use crate::trial::{Trial, finish, trial_at};
 use elf_image::Image;
-use endings::{Did, End, Halt, Status, Why, not_started};
+use endings::{Did, End, Halt, Status, not_started};
 use file_store::Store;
 use job_file::{RunParam, TryJob, TryParam, try_job_in};
 use job_reasons::{Command, parameter_reason};
@@ -124,8 +124,7 @@ fn run_tried<'a>(
 {
     let params = params_for(&job.params, &args.places);
     let Some(parameters) = Parameters::new(params) else {
-        let reason = parameter_reason(&params);
-        return Err(Halt::explained(alloc, Why::Parameters(reason)));
+        return Err(Halt::Parameters(parameter_reason(&params)));
     };
     match job.vlen {
         Vlen::V128 => run::<16>(alloc, job, image, &parameters, args),
@@ -191,7 +190,7 @@ fn run<'a, const VLENB: usize>(
             trial: trial_after(outcome),
             last,
         }),
-        Err((error, args)) => Err(not_started(alloc, parameters, &args, 0, job.max, error)),
+        Err((error, args)) => Err(not_started(parameters, &args, 0, job.max, error)),
     }
 }
 

@@ -33,4 +33,6 @@ check_told image certificate vlen error at reason is explains listed wants = rec
 -- what is kept means what that means which was to be kept
 pub explained_as : (h : Halt) (w : Why) (means : Why → Type 0) → IfExplained h (λ kept. kept ≡ w) → means w → IfExplained h means
 explained_as (halt.Plain s) w means is holds = tt
+explained_as (halt.Parameters reason) w means is holds = absurd is
+explained_as (halt.Unopened told) w means is holds = absurd is
 explained_as (halt.Explained kept) w means is holds = subst means (sym is) holds

@@ -34,18 +34,18 @@ error_of (job_reason.Breach breach) = job_error.BadKey
 -- the reason to stop that something explains
 abbrev pub stop_of_why : Why → Stop
 stop_of_why (why.Job reason) = stop.Job (error_of reason)
-stop_of_why (why.Parameters reason) = stop.Job job_error.BadKey
 stop_of_why (why.File path line) = stop.File path
 stop_of_why (why.Image refusal) = stop.Image refusal.error
 stop_of_why (why.Attach refusal) = stop.Image refusal.error
 stop_of_why (why.Certificate refusal) = stop.Certificate refusal.error
 stop_of_why (why.Check refusal) = stop.Check refusal.error
 stop_of_why (why.Make refusal) = stop.Make refusal.error
-stop_of_why (why.Open refusal) = stop.Open refusal.error
 
 -- without the explanation
 abbrev pub stop_of : Halt → Stop
 stop_of (halt.Plain reason) = reason
+stop_of (halt.Parameters reason) = stop.Job job_error.BadKey
+stop_of (halt.Unopened refusal) = stop.Open refusal.error
 stop_of (halt.Explained kept) = stop_of_why kept.value
 
 -- an answer, where the reason to stop stands alone
@@ -53,9 +53,11 @@ abbrev pub bare : {A : Type 0} → Result A Halt → Result A Stop
 bare (Ok a) = Ok a
 bare (Err stopped) = Err (stop_of stopped)
 
--- what explains the reason to stop means this, where it is kept
+-- what explains the reason to stop is large, and means this where it is kept
 abbrev pub IfExplained : Halt → (Why → Type 0) → Type 0
 IfExplained (halt.Plain reason) means = Unit {0}
+IfExplained (halt.Parameters reason) means = ⊥
+IfExplained (halt.Unopened refusal) means = ⊥
 IfExplained (halt.Explained kept) means = means kept.value
 
 -- ---- the explanation
@@ -63,7 +65,6 @@ IfExplained (halt.Explained kept) means = means kept.value
 -- of the very reason to stop
 abbrev pub why_text : Why → List ℕ
 why_text (why.Job reason) = job_text reason
-why_text (why.Parameters reason) = make_text reason
 why_text (why.File path line) = string_bytes line
 why_text (why.Image refusal) =
     told (image_words.error_text refusal.error) (image_text refusal.reason.0)
@@ -75,8 +76,6 @@ why_text (why.Check refusal) =
     told (check_words.error_text refusal.error) (check_text refusal.reason)
 why_text (why.Make refusal) =
     told (make_words.error_text refusal.error) (loop_text refusal.reason)
-why_text (why.Open refusal) =
-    told (open_words.error_text refusal.error) (open_text refusal.reason)
 
 -- of a reason to stop of which no more is kept: nothing, but where there is no more to know
 abbrev pub plain_text : Stop → List ℕ
@@ -94,4 +93,7 @@ plain_text stop.Output = []
 
 abbrev pub halt_text : Halt → List ℕ
 halt_text (halt.Plain reason) = plain_text reason
+halt_text (halt.Parameters reason) = make_text reason
+halt_text (halt.Unopened refusal) =
+    told (open_words.error_text refusal.error) (open_text refusal.reason)
 halt_text (halt.Explained kept) = why_text kept.value

@@ -1,5 +1,5 @@
--- The explanation of why a subcommand stops, step by step: the very reason of the error. There is
--- none where memory did not suffice to keep the reason.
+-- The explanation of why a subcommand stops, step by step: the very reason of the error. There may
+-- be none of a large reason, where memory did not suffice to keep it.
 use Rattle.std.specs.Prelude.{◌≡◌, ℕ, List, Option, Some, None, Result, Ok, Err, unwrap_or}
 use Rattle.std.specs.Global.{Global}
 use Rattle.block_checker.specs.Bound.{bound_of, scalars_of}
@@ -47,7 +47,6 @@ TellsText None stopped = stopped ≡ halt.Plain stop.Memory
 -- why the bytes of a job file spell no table
 abbrev pub IsOfText : List ℕ → Why → Type 0
 IsOfText text (why.Job reason) = IsTextReason text (Some reason)
-IsOfText text (why.Parameters reason) = ⊥
 IsOfText text other = Unit {0}
 
 abbrev pub ExplainsText : List ℕ → Halt → Type 0
@@ -56,7 +55,6 @@ ExplainsText text stopped = IfExplained stopped (IsOfText text)
 -- why a command takes no job of a table
 abbrev pub IsOfTable : Command → Members → Why → Type 0
 IsOfTable command table (why.Job reason) = IsTableReason command table (Some reason)
-IsOfTable command table (why.Parameters reason) = ⊥
 IsOfTable command table other = Unit {0}
 
 abbrev pub ExplainsTable : Command → Members → Halt → Type 0
@@ -128,25 +126,34 @@ abbrev pub IsRefusalReason : List Param → MakeRefusal → LoopReason → Type 
 IsRefusalReason params (make_refusal.Misfit misfit) told = IsLoopReason params misfit told
 IsRefusalReason params make_refusal.NoMemory told = ⊥
 
+-- it is not the parameters of a job that are refused: of these the reason is always kept
+abbrev pub IsNoJob : Stop → Type 0
+IsNoJob (stop.Job error) = ⊥
+IsNoJob other = Unit {0}
+
 abbrev pub IsOfMisfit : List Param → MakeRefusal → Why → Type 0
 IsOfMisfit params refusal (why.Make told) =
     (told.error ≡ error_of refusal) × IsRefusalReason params refusal told.reason
-IsOfMisfit params refusal (why.Parameters reason) = ⊥
 IsOfMisfit params refusal (why.Job reason) = ⊥
 IsOfMisfit params refusal other = Unit {0}
 
 abbrev pub TellsLoop : List Param → MakeRefusal → Halt → Type 0
-TellsLoop params refusal stopped = IfExplained stopped (IsOfMisfit params refusal)
+TellsLoop params refusal (halt.Plain reason) = IsNoJob reason
+TellsLoop params refusal (halt.Parameters reason) = ⊥
+TellsLoop params refusal (halt.Unopened told) = ⊥
+TellsLoop params refusal (halt.Explained kept) = IsOfMisfit params refusal kept.value
 
 -- why there is no certificate of the loop in an image for these parameters
 abbrev pub IsOfLoop : List Param → ImageView → Why → Type 0
-IsOfLoop params image (why.Parameters reason) = reason ≡ parameter_reason params
 IsOfLoop params image (why.Make told) = IsMakeReason params image told.error told.reason
 IsOfLoop params image (why.Job reason) = ⊥
 IsOfLoop params image other = Unit {0}
 
 abbrev pub ExplainsLoop : List Param → ImageView → Halt → Type 0
-ExplainsLoop params image stopped = IfExplained stopped (IsOfLoop params image)
+ExplainsLoop params image (halt.Plain reason) = IsNoJob reason
+ExplainsLoop params image (halt.Parameters reason) = reason ≡ parameter_reason params
+ExplainsLoop params image (halt.Unopened told) = ⊥
+ExplainsLoop params image (halt.Explained kept) = IsOfLoop params image kept.value
 
 -- why a file, whose image has this certificate, takes none of `size` bytes
 abbrev pub IsOfAttached : List ℕ → Option (List ℕ) → ℕ → Why → Type 0
@@ -161,17 +168,13 @@ ExplainsAttached file there size stopped = IfExplained stopped (IsOfAttached fil
 -- ---- a run
 
 -- why no run of these arguments is opened: the reason has the first of the parameters that there
--- can't be, if there are such
-abbrev pub IsOfOpened : List Param → List Argument → ℕ → ℕ → Why → Type 0
-IsOfOpened params args bound max (why.Open told) =
-    told.reason ≡ reason_of params args bound max told.error
-IsOfOpened params args bound max (why.Job reason) = ⊥
-IsOfOpened params args bound max (why.Parameters reason) = reason ≡ parameter_reason params
-IsOfOpened params args bound max other = Unit {0}
-
+-- can't be, if there are such. Want of memory alone has no reason
 abbrev pub ExplainsOpened : List Param → List Argument → ℕ → ℕ → Halt → Type 0
-ExplainsOpened params args bound max stopped =
-    IfExplained stopped (IsOfOpened params args bound max)
+ExplainsOpened params args bound max (halt.Plain reason) = reason ≡ stop.Memory
+ExplainsOpened params args bound max (halt.Parameters reason) = reason ≡ parameter_reason params
+ExplainsOpened params args bound max (halt.Unopened told) =
+    told.reason ≡ reason_of params args bound max told.error
+ExplainsOpened params args bound max (halt.Explained kept) = ⊥
 
 -- why no run of an accepted image is opened, with the bound that its certificate states for these
 -- arguments

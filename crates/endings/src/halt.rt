@@ -17,23 +17,26 @@ use sandbox_run::OpenError;
 use std::alloc::{AllocError, Global};
 use std::fmt;
 
-/// Why a subcommand stops, with what explains it, where memory sufficed to keep that. It shows the explanation.
+/// Why a subcommand stops, with what explains it. A large explanation is kept where memory sufficed, and a small one
+/// always. It shows the explanation.
 #[derive(Drop)]
 pub enum Halt<'a> {
     /// No more is kept than the reason to stop.
     Plain(Stop<'a>),
+    /// The parameters of a job are refused for this reason.
+    Parameters(MakeReason),
+    /// No run is opened.
+    Unopened(Refusal<OpenError, OpenReason>),
     /// What explains the reason to stop. It stands on the heap, so that an answer with it is small.
     Explained(Box<Why<'a>>),
 }
 
-/// What explains a reason to stop. It shows the error's text on a line of its own, where there is an error, and then the
-/// reason's lines.
+/// What explains a reason to stop and is large. It shows the error's text on a line of its own, where there is an error,
+/// and then the reason's lines.
 #[derive(Drop)]
 pub enum Why<'a> {
     /// A job is refused for this reason.
     Job(JobReason),
-    /// The parameters of a job are refused for this reason.
-    Parameters(MakeReason),
     /// The file at the path was not read or not written, and the line has what the system says of it.
     File(&'a str, String),
     /// A file is no image.
@@ -46,8 +49,6 @@ pub enum Why<'a> {
     Check(Refusal<CheckError, CheckReason>),
     /// No certificate is made of an image.
     Make(Refusal<MakeError, LoopReason>),
-    /// No run is opened.
-    Open(Refusal<OpenError, OpenReason>),
 }
 
 /// The error of a job that is refused for a reason.
@@ -67,14 +68,12 @@ impl<'a> Why<'a> {
     {
         match self {
             Why::Job(reason) => Stop::Job(error_of(reason)),
-            Why::Parameters(_) => Stop::Job(JobError::BadKey),
             Why::File(path, _) => Stop::File(*path),
             Why::Image(told) => Stop::Image(told.error),
             Why::Attach(told) => Stop::Image(told.error),
             Why::Certificate(told) => Stop::Certificate(told.error),
             Why::Check(told) => Stop::Check(told.error),
             Why::Make(told) => Stop::Make(told.error),
-            Why::Open(told) => Stop::Open(told.error),
         }
     }
 }
@@ -98,6 +97,8 @@ impl<'a> Halt<'a> {
     {
         match self {
             Halt::Plain(stop) => *stop,
+            Halt::Parameters(_) => Stop::Job(JobError::BadKey),
+            Halt::Unopened(told) => Stop::Open(told.error),
             Halt::Explained(why) => why.stop(),
         }
     }
@@ -120,14 +121,12 @@ impl fmt::Display for Why<'_> {
     fn fmt<W: fmt::Write>(&self, f: &mut fmt::Formatter<W>) -> fmt::Result {
         match self {
             Why::Job(reason) => write!(f, "{reason}"),
-            Why::Parameters(reason) => write!(f, "{reason}"),
             Why::File(_, line) => write!(f, "{line}"),
             Why::Image(told) => write!(f, "{told}"),
             Why::Attach(told) => write!(f, "{told}"),
             Why::Certificate(told) => write!(f, "{told}"),
             Why::Check(told) => write!(f, "{told}"),
             Why::Make(told) => write!(f, "{told}"),
-            Why::Open(told) => write!(f, "{told}"),
         }
     }
 }
@@ -157,6 +156,8 @@ impl fmt::Display for Halt<'_> {
                 | Stop::Memory
                 | Stop::Output,
             ) => Ok(()),
+            Halt::Parameters(reason) => write!(f, "{reason}"),
+            Halt::Unopened(told) => write!(f, "{told}"),
             Halt::Explained(why) => write!(f, "{why}"),
         }
     }

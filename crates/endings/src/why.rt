@@ -1,4 +1,4 @@
-//! Why a subcommand stops, from what it stops at. Where memory ran out, there is no explanation.
+//! Why a subcommand stops, from what it stops at. Where memory ran out, a large explanation is left out.
 ghost use Rattle.std.specs.Prelude.{◌≡◌, IfSome, None, Some};
 ghost use Rattle.block_checker.specs.Bound.{scalar_of, scalars_of};
 ghost use Rattle.block_checker.specs.Explained.{IsStopped};
@@ -190,7 +190,6 @@ fn scalars(places: &[Arg; 8]) -> [u32; 8]
 
 /// A run is not opened: of the arguments or of the bound.
 pub fn not_started<'a>(
-    alloc: Global,
     parameters: &Parameters,
     args: &Args,
     bound: u128,
@@ -204,21 +203,15 @@ pub fn not_started<'a>(
         Halt::Plain(Stop::Memory)
     } else {
         let reason = open_reason(parameters, args, bound, max, error);
-        Halt::explained(alloc, Why::Open(Refusal { error, reason }))
+        Halt::Unopened(Refusal { error, reason })
     }
 }
 
 /// No run of an accepted image is opened.
-pub fn not_opened<'a>(
-    alloc: Global,
-    accepted: &Accepted,
-    args: &Args,
-    max: u64,
-    error: OpenError,
-) -> Halt<'a>
+pub fn not_opened<'a>(accepted: &Accepted, args: &Args, max: u64, error: OpenError) -> Halt<'a>
     ensures stop { stop_of result ≡ stop_of_open error }
     ensures told { ExplainsRun max accepted.now args.now.places result }
 {
     let bound = accepted.bound(&scalars(&args.places));
-    not_started(alloc, accepted.parameters(), args, bound, max, error)
+    not_started(accepted.parameters(), args, bound, max, error)
 }

@@ -91,3 +91,96 @@ loop-preserved g c = elim c.match-read.branch [
         goes = rw (w.monitor-is, w.output-is, w.line-is) (goes.0, consumes-kept _ (g.I.Source.remaining c.loop.input) _ goes.0 goes.1 w.in-Err.ensures.bytes, goes.2);
       }
 ]
+
+pub returns-in-Ok-eq0-clause-same_reference : goal.returns-in-Ok-eq0-clause-same_reference
+returns-in-Ok-eq0-clause-same_reference g c = c.loop.invariant.same
+
+pub returns-in-Ok-eq0-clause-first : goal.returns-in-Ok-eq0-clause-first
+returns-in-Ok-eq0-clause-first g c = c.loop.invariant.first
+
+pub returns-in-Ok-eq0-clause-few : goal.returns-in-Ok-eq0-clause-few
+returns-in-Ok-eq0-clause-few g c = omega (arith, reads_within _ _ _ _ c.loop.invariant.within c.read.ensures.reads, c.loop-test.true)
+
+pub returns-in-Ok-eq0-clause-passed : goal.returns-in-Ok-eq0-clause-passed
+returns-in-Ok-eq0-clause-passed g c = c.loop.invariant.passed
+
+pub returns-in-Ok-eq0-clause-unanswered : goal.returns-in-Ok-eq0-clause-unanswered
+returns-in-Ok-eq0-clause-unanswered g c = tt
+
+pub returns-in_err-answer-in-Ok-eq0-2-clause-same_reference : goal.returns-in_err-answer-in-Ok-eq0-2-clause-same_reference
+returns-in_err-answer-in-Ok-eq0-2-clause-same_reference g c = c.answer.ensures.same_reference ∙ c.loop.invariant.same
+
+pub returns-in_err-answer-in-Ok-eq0-2-clause-first : goal.returns-in_err-answer-in-Ok-eq0-2-clause-first
+returns-in_err-answer-in-Ok-eq0-2-clause-first g c = c.answer.ensures.first ∙ c.loop.invariant.first
+
+pub returns-in_err-answer-in-Ok-eq0-2-clause-few : goal.returns-in_err-answer-in-Ok-eq0-2-clause-few
+returns-in_err-answer-in-Ok-eq0-2-clause-few g c = omega (arith, reads_within _ _ _ _ c.loop.invariant.within c.read.ensures.reads, c.loop-test.true)
+
+pub returns-in-Ok-eq0-2-clause-same_reference : goal.returns-in-Ok-eq0-2-clause-same_reference
+returns-in-Ok-eq0-2-clause-same_reference g c = c.answer.ensures.same_reference ∙ c.loop.invariant.same
+
+pub returns-in-Ok-eq0-2-clause-first : goal.returns-in-Ok-eq0-2-clause-first
+returns-in-Ok-eq0-2-clause-first g c = c.answer.ensures.first ∙ c.loop.invariant.first
+
+pub returns-in-Ok-eq0-2-clause-few : goal.returns-in-Ok-eq0-2-clause-few
+returns-in-Ok-eq0-2-clause-few g c = omega (arith, reads_within _ _ _ _ c.loop.invariant.within c.read.ensures.reads, c.loop-test.true)
+
+pub returns-in-Ok-eq0-2-clause-unanswered : goal.returns-in-Ok-eq0-2-clause-unanswered
+returns-in-Ok-eq0-2-clause-unanswered g c = tt
+
+pub returns-in_err-answer_bytes-in-Ok-clause-same_reference : goal.returns-in_err-answer_bytes-in-Ok-clause-same_reference
+returns-in_err-answer_bytes-in-Ok-clause-same_reference g c = c.answer_bytes.ensures.same_reference ∙ c.loop.invariant.same
+
+pub returns-in_err-answer_bytes-in-Ok-clause-first : goal.returns-in_err-answer_bytes-in-Ok-clause-first
+returns-in_err-answer_bytes-in-Ok-clause-first g c = c.answer_bytes.ensures.first ∙ c.loop.invariant.first
+
+pub returns-in_err-answer_bytes-in-Ok-clause-few : goal.returns-in_err-answer_bytes-in-Ok-clause-few
+returns-in_err-answer_bytes-in-Ok-clause-few g c = omega (arith, reads_within _ _ _ _ c.loop.invariant.within c.read.ensures.reads, c.loop-test.true)
+
+pub returns-in-Quit-clause-same_reference : goal.returns-in-Quit-clause-same_reference
+returns-in-Quit-clause-same_reference g c = c.answer_bytes.ensures.same_reference ∙ c.loop.invariant.same
+
+pub returns-in-Quit-clause-first : goal.returns-in-Quit-clause-first
+returns-in-Quit-clause-first g c = c.answer_bytes.ensures.first ∙ c.loop.invariant.first
+
+pub returns-in-Quit-clause-few : goal.returns-in-Quit-clause-few
+returns-in-Quit-clause-few g c = omega (arith, reads_within _ _ _ _ c.loop.invariant.within c.read.ensures.reads, c.loop-test.true)
+
+pub returns-in-Quit-clause-unanswered : goal.returns-in-Quit-clause-unanswered
+returns-in-Quit-clause-unanswered g c = tt
+
+pub returns-in-Err-2-clause-same_reference : goal.returns-in-Err-2-clause-same_reference
+returns-in-Err-2-clause-same_reference g c = c.loop.invariant.same
+
+pub returns-in-Err-2-clause-first : goal.returns-in-Err-2-clause-first
+returns-in-Err-2-clause-first g c = c.loop.invariant.first
+
+pub returns-in-Err-2-clause-few : goal.returns-in-Err-2-clause-few
+returns-in-Err-2-clause-few g c = omega (arith, reads_within _ _ _ _ c.loop.invariant.within c.read.ensures.reads, c.loop-test.true)
+
+pub returns-in-Err-2-clause-answered : goal.returns-in-Err-2-clause-answered
+returns-in-Err-2-clause-answered g c = tt
+
+pub returns-in-Err-2-clause-heard : goal.returns-in-Err-2-clause-heard
+returns-in-Err-2-clause-heard g c = tt
+
+pub returns-in-Err-2-clause-passed : goal.returns-in-Err-2-clause-passed
+returns-in-Err-2-clause-passed g c = tt
+
+pub returns-clause-same_reference : goal.returns-clause-same_reference
+returns-clause-same_reference g c = c.loop.invariant.same
+
+pub returns-clause-first : goal.returns-clause-first
+returns-clause-first g c = c.loop.invariant.first
+
+pub returns-clause-few : goal.returns-clause-few
+returns-clause-few g c = omega (arith, c.loop.invariant.within, c.loop.auto.counter-end)
+
+pub returns-clause-answered : goal.returns-clause-answered
+returns-clause-answered g c = tt
+
+pub returns-clause-heard : goal.returns-clause-heard
+returns-clause-heard g c = tt
+
+pub returns-clause-passed : goal.returns-clause-passed
+returns-clause-passed g c = tt

@@ -18,3 +18,12 @@ returns-in_err-watch-in-Ok-clause-stopped g c =
       begins = c.in-Ok.ensures.opened;
       unanswered = c.in_err-watch-in-Ok.ensures.unanswered;
     }))
+
+pub returns-in_ok-watch-in-Ok-clause-few : goal.returns-in_ok-watch-in-Ok-clause-few
+returns-in_ok-watch-in-Ok-clause-few g c = c.watch.ensures.few
+
+pub returns-in_ok-watch-in-Ok-clause-passed : goal.returns-in_ok-watch-in-Ok-clause-passed
+returns-in_ok-watch-in-Ok-clause-passed g c = c.in_ok-watch-in-Ok.ensures.passed
+
+pub returns-in_err-watch-in-Ok-clause-few : goal.returns-in_err-watch-in-Ok-clause-few
+returns-in_err-watch-in-Ok-clause-few g c = c.watch.ensures.few

@@ -1,4 +1,4 @@
-use Rattle.std.proofs.Common.{◌≡◌, Option, Some, inl, inr, subst}
+use Rattle.std.proofs.Common.{◌≡◌, ◌∙◌, Option, Some, inl, inr, refl, subst}
 use Rattle.job_file.specs.Needs.{run_job_in, run_job_lent}
 use Rattle.toml.specs.View.{table_view}
 use Rattle.endings.specs.Accepted.{accepted_of}
@@ -24,3 +24,18 @@ pub returns-in_err-accepted-clause-start : goal.returns-in_err-accepted-clause-s
 returns-in_err-accepted-clause-start g c =
     let asked : run_job_in (table_view c.args.table.now) ≡ Some (run_job_lent c.in_ok-job.job) = asked_for run_job_lent _ _ _ c.run_job_in.ensures c.in_ok-job.ensures in
     handed_on _ _ _ _ c.from_residual-in_err-accepted.ensures.1 (inr (run_job_lent c.in_ok-job.job, asked, inr (c.in_ok-image.image, c.in_ok-image.ensures.image, inl (((c.in_err-accepted.ensures.certificate, c.in_err-accepted.ensures.answer), c.in_err-accepted.ensures.told), tt))))
+
+pub returns-clause-files : goal.returns-clause-files
+returns-clause-files g c = c.in_ok-args.ensures.files ∙ c.in_ok-image.ensures.files
+
+pub returns-in_err-args-clause-files : goal.returns-in_err-args-clause-files
+returns-in_err-args-clause-files g c = c.read_args.ensures.files ∙ c.in_ok-image.ensures.files
+
+pub returns-in_err-accepted-clause-files : goal.returns-in_err-accepted-clause-files
+returns-in_err-accepted-clause-files g c = c.in_ok-image.ensures.files
+
+pub returns-in_err-image-clause-files : goal.returns-in_err-image-clause-files
+returns-in_err-image-clause-files g c = c.read_image.ensures.files
+
+pub returns-in_err-job-clause-files : goal.returns-in_err-job-clause-files
+returns-in_err-job-clause-files g c = refl

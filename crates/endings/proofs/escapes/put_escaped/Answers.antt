@@ -1,12 +1,23 @@
 -- A failure leaves the characters before it, and some of this one; at the end all characters were written.
-use Rattle.std.proofs.Common.{◌∙◌, Err, ap, chars, flat_map, map-id, subst, sym, ℕ, List}
+use Rattle.std.proofs.Common.{◌∙◌, ◌++◌, ◌∷◌, [], Err, ap, append-nil, chars, flat_map, map-id, subst, sym, ℕ, List}
+use Rattle.std.proofs.lemmas.Grind.{flat_map-append}
 use Rattle.std.proofs.lemmas.Iterator.{YieldsList-from_chars}
 use Rattle.std.proofs.lemmas.Iterator.Consumers.{YieldsList-end, YieldsList-so_far, YieldsList-turn}
 use Rattle.std.specs.Io.KnownBytes.{Appends}
-use Rattle.rv_listing.specs.SinkLemmas.{told_err, told_part, told_then}
+use Rattle.rv_listing.specs.SinkLemmas.{appends_both, told_err, told_part, told_then}
 use Rattle.job_reasons.specs.Escaped.{shown_text}
 use Rattle.endings.proofs.EscapedLemmas.{shown-rest}
 use Rattle.endings.proofs.escapes.put_escaped.Goals as goal
+
+pub loop-c-preserved : goal.loop-c-preserved
+loop-c-preserved g c =
+    let one = ap (λ (bs : List ℕ). flat_map shown_text c.loop-c.yielded ++ bs) (append-nil (shown_text c.in-Some.c)) in
+    let all = flat_map-append shown_text c.loop-c.yielded (c.in-Some.c ∷ []) ∙ one in
+    let told = appends_both _ _ _ _ _ c.loop-c.invariant.told c.in_ok-put_char.ensures.0 in
+    record {
+      told = subst (λ (bs : List ℕ). Appends (g.S.Sink.contents c.args.out.now) (g.S.Sink.contents c.put_char.new.out) bs) (sym all) told;
+      same = c.in_ok-put_char.ensures.1 ∙ c.loop-c.invariant.same;
+    }
 
 pub returns-in_err-put_char : goal.returns-in_err-put_char
 returns-in_err-put_char g c =
