@@ -1,5 +1,5 @@
 -- How a subcommand ends, from what was done and what was told.
-use Rattle.std.proofs.Common.{◌≡◌, ◌∙◌, ◌++◌, ◌⊎◌, ◌-◌, ◌^◌, ◌+◌, ◌<◌, Bool, false, true, ℕ, length, set, get_or, get_or-set_other, get_or-set_same, arith, List, [], Option, Some, option_map, Result, Ok, Err, IfOk, IfErr, OnOk, MatchResult, ap, refl, sym, subst, inl, inr}
+use Rattle.std.proofs.Common.{◌≡◌, ◌∙◌, ◌⊎◌, ◌+◌, ◌<◌, Bool, false, true, ℕ, length, set, get_or, get_or-set_other, get_or-set_same, arith, List, [], Option, Some, option_map, Result, Ok, Err, IfOk, IfErr, OnOk, MatchResult, ap, refl, sym, subst, inl, inr}
 use Rattle.std.proofs.lemmas.Bool.{cases_lt}
 use Rattle.std.specs.Borrow.{Bor}
 use Rattle.std.specs.Result.{IsErrAnd}
@@ -15,19 +15,18 @@ use Rattle.region_mem.specs.declared.arguments.Arg.TheVariants as argument
 use Rattle.toml.specs.Data.{Members}
 use Rattle.toml.specs.Parse.{parse_document}
 use Rattle.endings.specs.Accepted.{IsOrWant}
-use Rattle.endings.specs.Did.{did_of}
 use Rattle.endings.specs.Ending.{Ends, Tells, plain, status_after, status_of}
-use Rattle.commands.specs.Files.{ArePassed, IsImageAt, IsImageOfFirst, IsNoImageAt, IsNoTable, IsNoTableAt, IsTableAt, IsTableOfFirst, IsUnfinished, IsUnpassed, IsUnwritten, image_in, outs_of}
+use Rattle.commands.specs.Files.{ArePassed, IsImageAt, IsImageOfFirst, IsNoImageAt, IsNoTable, IsNoTableAt, IsReadSoFar, IsTableAt, IsTableOfFirst, IsUnpassed, IsUnwritten, image_in}
 use Rattle.file_store.specs.Store.{Files, files_of}
 use Rattle.endings.specs.Halt.{bare, stop_of}
 use Rattle.commands.specs.Makes.{◌>>=◌, made_for, made_of}
 use Rattle.commands.specs.Starts.{IsStarted, IsUnstarted, StopsStarting}
 use Rattle.commands.specs.Steps.{IsUnasked}
-use Rattle.endings.specs.Streams.{Prints, Stream}
+use Rattle.endings.specs.Streams.{Stream}
 use Rattle.commands.specs.Changes.{Change, Wrote, change}
 use Rattle.commands.specs.Files.{IsFirstOf}
 use Rattle.file_store.specs.System.{IsFirst, Known}
-use Rattle.commands.specs.Trial.{OrMemory, StopsAtTrial, line_of, shown_of, told_of}
+use Rattle.commands.specs.Trial.{IsFinished, OrMemory, StopsAtTrial, StopsFinishing}
 use Rattle.endings.specs.Why.{ExplainsImage}
 use Rattle.commands.specs.Words.{Argument, Halt, ImageView}
 use Rattle.file_store.specs.Written.{Gains, Held, Written}
@@ -132,11 +131,10 @@ image_read files path had file (Err why) same there is told = inr (file, subst (
 
 -- the same of the first bytes
 pub image_first : (known : Option Known) (path : Text) (most : ℕ) (had file : List ℕ) (result : Result ImageView Halt)
-    → file ≡ had → IsFirst known path most had ⊎ IsFirst known path (2 ^ 64 - 1) had → OrMemory (image_in file) (bare result)
-    → IfOk result (IsImageOfFirst known path most)
-image_first known path most had file (Ok image) same first is =
-    record { bytes = had; first = first; spells = or_ok (image_in had) image (subst (λ (f : List ℕ). OrMemory (image_in f) (Ok image)) same is) }
-image_first known path most had file (Err why) same first is = tt
+    → file ≡ had → IsReadSoFar known path most had → OrMemory (image_in file) (bare result) → IfOk result (IsImageOfFirst known path most)
+image_first known path most had file (Ok image) same read is =
+    record { bytes = had; read = read; spells = or_ok (image_in had) image (subst (λ (f : List ℕ). OrMemory (image_in f) (Ok image)) same is) }
+image_first known path most had file (Err why) same read is = tt
 
 -- ---- what a table asks for: `o` is what the program has of it
 
@@ -225,23 +223,25 @@ unprinted files c params args reason same why = record {
   why = why.why;
 }
 
--- a run that came to a trial is written and told, or why not: `given` is what the job passes, as the program has it
-pub finished : (old new : Stream) (first then has : Option Held) (given params : List (RunParam Text))
-    (defined : Result Trial Stop) (explains : Halt → Type 0) (trial : Trial) (stand : Option Stand) (asked : Bool) (shown : List ℕ) (result : Result Did Halt) (does : Did → Type 0) (stops : Halt → Type 0)
-    → given ≡ params → OrMemory defined (Ok trial) → then ≡ first → shown ≡ shown_of asked trial
-    → IfOk result (λ did. did ≡ did_of trial.end stand) → OnOk result (Prints old new (line_of trial ++ shown))
-    → OnOk result (Gains then has (outs_of given trial.args.places))
-    → IfErr result (λ why. IsUnfinished (files_of then) (change then has old new) given trial.args.places (line_of trial ++ shown) (stop_of why))
-    → ((did : Did) → defined ≡ Ok trial → Gains first has (outs_of params trial.args.places) → Prints old new (told_of asked trial)
-    → did ≡ did_of trial.end stand → does did)
-    → ((why : Halt) → StopsAtTrial (files_of first) (change first has old new) asked params defined explains why → stops why)
+-- a run that came to a trial is written and told, or why not, of the files as they were before they were read: `given` is what
+-- the job passes, as the program has it
+pub finished : (old new : Stream) (first then has : Option Held) (given params : List (RunParam Text)) (asked : Bool) (trial : Trial)
+    (stand : Option Stand) (result : Result Did Halt) (does : Did → Type 0) (stops : Halt → Type 0) → given ≡ params → then ≡ first
+    → MatchResult result (IsFinished (change then has old new) asked given trial stand) (StopsFinishing (files_of then) (change then has old new) asked given trial)
+    → ((did : Did) → IsFinished (change first has old new) asked params trial stand did → does did)
+    → ((why : Halt) → StopsFinishing (files_of first) (change first has old new) asked params trial why → stops why)
     → MatchResult result does stops
-finished old new first then has given params defined explains trial stand asked shown (Ok did) does stops same comes none is done told wrote un do_so stop_so =
-    let outs = subst (λ (ps : List (RunParam Text)). Gains first has (outs_of ps trial.args.places)) same
-    (subst (λ (h : Option Held). Gains h has (outs_of given trial.args.places)) none wrote) in
-    do_so did (or_ok defined trial comes) outs (subst (λ (text : List ℕ). Prints old new (line_of trial ++ text)) is told) done
-finished old new first then has given params defined explains trial stand asked shown (Err why) does stops same comes none is done told wrote un do_so stop_so =
-    let all = subst (λ (h : Option Held). IsUnfinished (files_of h) (change h has old new) given trial.args.places (line_of trial ++ shown) (stop_of why)) none un in
-    let some = subst (λ (ps : List (RunParam Text)). IsUnfinished (files_of first) (change first has old new) ps trial.args.places (line_of trial ++ shown) (stop_of why)) same all in
-    let so = subst (λ (text : List ℕ). IsUnfinished (files_of first) (change first has old new) params trial.args.places (line_of trial ++ text) (stop_of why)) is some in
-    stop_so why (inr (trial, or_ok defined trial comes, so))
+finished old new first then has given params asked trial stand result does stops same none comes do_so stop_so =
+    let now = subst (λ (h : Option Held). MatchResult result (IsFinished (change h has old new) asked given trial stand)
+    (StopsFinishing (files_of h) (change h has old new) asked given trial)) none comes in
+    let all = subst (λ (ps : List (RunParam Text)). MatchResult result (IsFinished (change first has old new) asked ps trial stand)
+    (StopsFinishing (files_of first) (change first has old new) asked ps trial)) same now in
+    MatchResult-weaker result all do_so stop_so
+
+-- what is not told stops the run that came to it
+pub stops_finished : (files : Files) (c : Change) (asked : Bool) (params : List (RunParam Text)) (defined : Result Trial Stop)
+    (explains : Halt → Type 0) (trial : Trial) (why : Halt) → OrMemory defined (Ok trial) → (stop_of why ≡ stop.Memory → explains why)
+    → StopsFinishing files c asked params trial why → StopsAtTrial files c asked params defined explains why
+stops_finished files c asked params defined explains trial why comes explained (inl (memory, wrote)) =
+    inl ((unshown defined trial (stop_of why) comes memory, explained memory), wrote)
+stops_finished files c asked params defined explains trial why comes explained (inr un) = inr (trial, or_ok defined trial comes, un)

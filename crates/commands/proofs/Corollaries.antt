@@ -111,8 +111,8 @@ run_done registers was has path old new before now told tells s e is =
       passed = are_given was r.job.params r.args r.started.passed;
       trial = r.trial;
       comes = r.comes;
-      printed = r.told.0;
-      files = some _ _ r.wrote;
+      printed = r.finished.told.0;
+      files = some _ _ r.finished.wrote;
     }
 
 abbrev DoesTry : Bool → Held → Text → Change → Did → Type 0
@@ -136,9 +136,9 @@ try_done registers was has path old new before now told tells s e is =
       passed = are_given was (map passed_by r.job.params) r.args r.passed;
       trial = r.trial;
       comes = r.comes;
-      printed = r.told.0;
-      files = some _ _ r.wrote;
-      status = same ∙ (ap status_with r.done ∙ ended_so r.trial.end r.stand);
+      printed = r.finished.told.0;
+      files = some _ _ r.finished.wrote;
+      status = same ∙ (ap status_with r.finished.done ∙ ended_so r.trial.end r.stand);
     }
 
 abbrev DoesMake : Held → Text → Text → Text → Change → Did → Type 0

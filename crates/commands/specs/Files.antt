@@ -1,9 +1,10 @@
 -- The files of a job: what is read before its run, and what is written after it.
-use Rattle.std.specs.Prelude.{◌≡◌, ◌<◌, ◌-◌, ◌^◌, ◌⊎◌, ℕ, List, [], ◌∷◌, length, get_or, take, Option, Some, None, Result, Ok, Err}
+use Rattle.std.specs.Prelude.{◌≡◌, ◌==◌, ◌&&◌, ◌<◌, ◌-◌, ◌^◌, ◌⊎◌, Bool, true, false, ℕ, List, [], ◌∷◌, length, get_or, take, Option, Some, None, Result, Ok, Err}
 use Rattle.std.specs.List.{filter_map, zip}
 use Rattle.std.specs.Str.{IsUtf8}
 use Rattle.elf_image.specs.Faults.{fault_of}
 use Rattle.elf_image.specs.File.{image_of}
+use Rattle.elf_image.specs.declared.error.ElfError.TheVariants as fault
 use Rattle.job_file.specs.declared.values.JobError.TheVariants.{NotToml}
 use Rattle.job_file.specs.declared.values.RunParam.{RunParam}
 use Rattle.job_file.specs.declared.values.RunParam.TheVariants as given
@@ -69,11 +70,29 @@ image_in file = unless_fault (fault_of file) (image_of file)
 abbrev pub IsImageAt : Files → Text → ImageView → Type 0
 IsImageAt files path image = (bytes : List ℕ) × files.holds path bytes × (image_in bytes ≡ Ok image)
 
--- the image that the first bytes of a file spell: at most `most` of them, or all
+-- whether a fault may come of what is left out: a table or a segment ends behind the last byte
+abbrev pub may_lie_behind : Option ElfError → Bool
+may_lie_behind (Some fault.BadHeaderTable) = true
+may_lie_behind (Some fault.SegmentOutOfFile) = true
+may_lie_behind other = false
+
+-- whether the first `most` bytes of a file do not show why it is refused
+abbrev pub lacks_rest : ℕ → List ℕ → Bool
+lacks_rest most first = (length first == most) && may_lie_behind (fault_of first)
+
+-- what is read of the file of an image: its first bytes, at most `most`, and all of it just where
+-- these do not show why it is refused
+abbrev pub IsReadSoFar : Option Known → Text → ℕ → List ℕ → Type 0
+IsReadSoFar known path most bytes =
+    (IsFirst known path most bytes × (lacks_rest most bytes ≡ false))
+    ⊎ ((first : List ℕ) × IsFirst known path most first × (lacks_rest most first ≡ true)
+    × IsFirst known path (2 ^ 64 - 1) bytes)
+
+-- the image that the bytes of a file spell that are read
 pub record IsImageOfFirst (known : Option Known) (path : Text) (most : ℕ) (image : ImageView)
     : Type 0 where
   pub bytes : List ℕ
-  pub first : IsFirst known path most bytes ⊎ IsFirst known path (2 ^ 64 - 1) bytes
+  pub read : IsReadSoFar known path most bytes
   pub spells : image_in bytes ≡ Ok image
 
 -- why a file spells no image: it has a fault

@@ -4,16 +4,13 @@ use Rattle.block_checker.specs.Bound.{bound_of, scalars_of}
 use Rattle.job_file.specs.Needs.{RunJob}
 use Rattle.job_reasons.specs.declared.job.Command.TheVariants as command
 use Rattle.sandbox_run.specs.Session.{open_fault}
-use Rattle.endings.specs.Did.{did_of}
 use Rattle.endings.specs.Ending.{stop_of_open}
-use Rattle.commands.specs.Files.{outs_of}
 use Rattle.file_store.specs.Store.{Files}
 use Rattle.commands.specs.Starts.{IsStarted, StopsStarting}
-use Rattle.endings.specs.Streams.{Prints}
 use Rattle.commands.specs.Changes.{Change, Wrote}
-use Rattle.commands.specs.Trial.{StopsAtTrial, told_of, trial_from}
+use Rattle.commands.specs.Trial.{IsFinished, StopsAtTrial, trial_from}
 use Rattle.endings.specs.Why.{ExplainsRun}
-use Rattle.commands.specs.Words.{AcceptedView, Agnostic, Argument, Gains, Halt, Members, OpenError, start, Stop, Text, vlenb_of}
+use Rattle.commands.specs.Words.{AcceptedView, Agnostic, Argument, Halt, Members, OpenError, start, Stop, Text, vlenb_of}
 use Rattle.endings.specs.declared.did.Did.{Did}
 use Rattle.commands.specs.declared.trial.Trial.{Trial}
 
@@ -48,9 +45,7 @@ pub record Runs (files : Files) (registers : Bool) (table : Members) (c : Change
   pub started : IsStarted files table job accepted args
   pub trial : Trial
   pub comes : run_of_job job accepted args ≡ Ok trial
-  pub wrote : Gains c.was c.has (outs_of job.params trial.args.places)
-  pub told : Prints c.old c.new (told_of registers trial)
-  pub done : d ≡ did_of trial.end None
+  pub finished : IsFinished c registers job.params trial None d
 
 -- ---- why it stops
 

@@ -1,5 +1,5 @@
 -- What comes of a run, and the words for it.
-use Rattle.std.specs.Prelude.{◌≡◌, ◌++◌, [], codes, Bool, true, false, ℕ, List, Result, Ok, Err}
+use Rattle.std.specs.Prelude.{◌≡◌, ◌++◌, ◌⊎◌, [], codes, Bool, true, false, ℕ, List, Option, Result, Ok, Err}
 use Rattle.std.specs.Fmt.{decimal}
 use Rattle.job_file.specs.declared.values.RunParam.{RunParam}
 use Rattle.monitor.specs.Texts.{csrs_text, registers_text}
@@ -12,14 +12,19 @@ use Rattle.machine.specs.declared.registers.Registers.{Registers}
 use Rattle.machine.specs.Run.{outcome}
 use Rattle.region_mem.specs.Digits.{digits_text}
 pub use Rattle.endings.specs.Accepted.{OrMemory}
-use Rattle.commands.specs.Files.{IsUnfinished}
+use Rattle.endings.specs.Did.{did_of}
+use Rattle.commands.specs.Files.{IsUnfinished, outs_of}
 use Rattle.file_store.specs.Store.{Files}
 use Rattle.endings.specs.Halt.{stop_of}
+use Rattle.endings.specs.Streams.{Prints}
 use Rattle.commands.specs.Steps.{StopsAt}
 use Rattle.commands.specs.Changes.{Change, Wrote}
-use Rattle.commands.specs.Words.{Halt, Machine, Stop, Text}
+use Rattle.commands.specs.Words.{Gains, Halt, Machine, Stop, Text}
+use Rattle.endings.specs.declared.did.Did.{Did}
 use Rattle.endings.specs.declared.stands.End.{End}
 use Rattle.endings.specs.declared.stands.End.TheVariants as end
+use Rattle.endings.specs.declared.stands.Stand.{Stand}
+use Rattle.endings.specs.declared.stop.Stop.TheVariants as stop
 use Rattle.commands.specs.declared.trial.Trial.{Trial}
 
 -- how a run ended, after how many steps, and the arguments and the registers as they then stood
@@ -66,7 +71,24 @@ shown_of true trial = state_text trial.registers trial.vlenb
 abbrev pub told_of : Bool → Trial → List ℕ
 told_of asked trial = line_of trial ++ shown_of asked trial
 
+-- ---- what is done: `c` is what is left
+
+-- a run that came to this is told, with the registers or without, and the out files of all places
+-- were written with the buffers as the run left them. It stands there
+pub record IsFinished (c : Change) (asked : Bool) (params : List (RunParam Text)) (trial : Trial)
+    (stand : Option Stand) (d : Did) : Type 0 where
+  pub wrote : Gains c.was c.has (outs_of params trial.args.places)
+  pub told : Prints c.old c.new (told_of asked trial)
+  pub done : d ≡ did_of trial.end stand
+
 -- ---- why it stops
+
+-- a run that came to this is not told: memory runs out before anything is written, or its outcome
+-- is not written or told
+abbrev pub StopsFinishing : Files → Change → Bool → List (RunParam Text) → Trial → Halt → Type 0
+StopsFinishing files c asked params trial why =
+    ((stop_of why ≡ stop.Memory) × Wrote c [])
+    ⊎ IsUnfinished files c params trial.args.places (told_of asked trial) (stop_of why)
 
 -- where this is what is defined of a run: it does not start, and `explains` says what the
 -- explanation is, or its outcome is not written or told

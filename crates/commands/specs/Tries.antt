@@ -17,17 +17,15 @@ use Rattle.region_mem.specs.declared.parameter.Param.{Param}
 use Rattle.region_mem.specs.declared.parameter.Param.TheVariants as parameter
 use Rattle.sandbox_run.specs.Answer.{last_pc}
 use Rattle.sandbox_run.specs.Errors.{open_error_of}
-use Rattle.endings.specs.Did.{did_of}
-use Rattle.commands.specs.Files.{ArePassed, IsImageAt, IsNoImageAt, IsUnpassed, outs_of}
+use Rattle.commands.specs.Files.{ArePassed, IsImageAt, IsNoImageAt, IsUnpassed}
 use Rattle.file_store.specs.Store.{Files}
 use Rattle.endings.specs.Halt.{stop_of}
 use Rattle.endings.specs.Stands.{stand_line, stand_text}
 use Rattle.commands.specs.Steps.{StopsAt, StopsAtJob}
-use Rattle.endings.specs.Streams.{Prints}
 use Rattle.commands.specs.Changes.{Change, Wrote}
-use Rattle.commands.specs.Trial.{StopsAtTrial, told_of, trial_from}
+use Rattle.commands.specs.Trial.{IsFinished, StopsAtTrial, trial_from}
 use Rattle.endings.specs.Why.{ExplainsOpened, ExplainsTable}
-use Rattle.commands.specs.Words.{Agnostic, Argument, Gains, Halt, ImageView, Machine, Members, start, Stop, Text, vlenb_of}
+use Rattle.commands.specs.Words.{Agnostic, Argument, Halt, ImageView, Machine, Members, start, Stop, Text, vlenb_of}
 use Rattle.endings.specs.declared.did.Did.{Did}
 use Rattle.endings.specs.declared.stands.Stand.{Stand}
 use Rattle.endings.specs.declared.stop.Stop.TheVariants as stop
@@ -113,12 +111,10 @@ pub record Tries (files : Files) (registers : Bool) (table : Members) (c : Chang
   pub passed : ArePassed files (map passed_by job.params) args
   pub trial : Trial
   pub comes : trial_of job image args ≡ Ok trial
-  pub wrote : Gains c.was c.has (outs_of (map passed_by job.params) trial.args.places)
-  pub told : Prints c.old c.new (told_of registers trial)
   pub stand : Option Stand
   pub stands : IfSome stand (λ at. stand_text at
       ≡ stand_line image (last_of job image args trial.steps) trial.registers trial.end)
-  pub done : d ≡ did_of trial.end stand
+  pub finished : IsFinished c registers (map passed_by job.params) trial stand d
 
 -- ---- why it stops
 

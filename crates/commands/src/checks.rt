@@ -1,11 +1,13 @@
 //! `check`: an image against its certificate, and the bound of its runs.
-ghost use Rattle.std.specs.Prelude.{MatchResult, OnOk};
+ghost use Rattle.std.specs.Prelude.{◌≡◌, MatchResult, OnOk};
 ghost use Rattle.rv_listing.specs.Sinks.{IsPassedOn, Told};
 ghost use Rattle.cert_note.specs.Values.{budget_text, product_text};
 ghost use Rattle.commands.specs.Checks.{Checks, StopsCheck, bound_line, second_text};
 ghost use Rattle.endings.specs.Ending.{Ends, PassesOn};
 ghost use Rattle.file_store.specs.Store.{files_of};
-ghost use Rattle.endings.specs.Streams.{stream};
+ghost use Rattle.endings.specs.Halt.{stop_of};
+ghost use Rattle.endings.specs.Streams.{IsCut, Prints, stream};
+ghost use Rattle.endings.specs.declared.stop.Stop.TheVariants.{Output};
 ghost use Rattle.commands.specs.Changes.{change};
 
 use crate::files::read_image;
@@ -55,10 +57,7 @@ fn check_at<'a, S: Store, O: Stream>(
 {
     let image = read_image(alloc, path, store)?;
     let budget = accept(alloc, image, None)?.budget();
-    match print_bound(&budget, output) {
-        Ok(()) => Ok(Did::Done),
-        Err(_) => Err(Halt::Plain(Stop::Output)),
-    }
+    print_bound(&budget, output)
 }
 
 /// Tells how many instructions a run takes for each one in a register's value.
@@ -109,12 +108,27 @@ fn put_bound<O: Sink>(budget: &Budget, output: &mut O) -> Result<(), Failed>
     put_all(output, &[Piece::Text("\n")])
 }
 
-/// Prints the same.
-pub fn print_bound<O: Stream>(budget: &Budget, output: &mut O) -> Result<(), Failed>
+/// The same, and nothing is kept back.
+fn pass_bound<O: Stream>(budget: &Budget, output: &mut O) -> Result<(), Failed>
     ensures told { Told result (O.contents output.old) (O.contents output.new)
         (O.failures output.old) (O.failures output.new) (bound_line budget.now) }
     ensures passed { OnOk result (IsPassedOn (O.passed output.new) (O.contents output.new)) }
 {
     put_bound(budget, output)?;
     output.pass_on()
+}
+
+/// Prints what an accepted image's runs take at most. It is the last thing that is done.
+pub fn print_bound<'a, O: Stream>(budget: &Budget, output: &mut O) -> Result<Did, Halt<'a>>
+    ensures told { let old = (stream (O.contents output.old) (O.failures output.old)) in
+        let new = (stream (O.contents output.new) (O.failures output.new)) in
+        MatchResult result
+        (λ did. Prints old new (bound_line budget.now) × (did ≡ Did.Done))
+        (λ why. (stop_of why ≡ Output) × IsCut old new (bound_line budget.now)) }
+    ensures passed { OnOk result (IsPassedOn (O.passed output.new) (O.contents output.new)) }
+{
+    match pass_bound(budget, output) {
+        Ok(()) => Ok(Did::Done),
+        Err(_) => Err(Halt::Plain(Stop::Output)),
+    }
 }

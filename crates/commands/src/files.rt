@@ -1,6 +1,5 @@
 //! The files of a job: what is read before its run, and what is written after it.
-ghost use Rattle.std.specs.Prelude.{◌≡◌, ◌⊎◌, ◌-◌, ◌^◌, IfErr, IfOk, MatchResult, Some, length};
-ghost use Rattle.std.specs.Prelude.{map, option_map, true};
+ghost use Rattle.std.specs.Prelude.{◌≡◌, ◌-◌, ◌^◌, IfErr, IfOk, MatchResult, Some, map, option_map};
 ghost use Rattle.job_file.specs.Needs.{run_param_lent};
 ghost use Rattle.toml.specs.Parse.{parse_document};
 ghost use Rattle.toml.specs.View.{table_view};
@@ -8,9 +7,9 @@ ghost use Rattle.endings.specs.Accepted.{OrMemory};
 ghost use Rattle.endings.specs.Ending.{IsOfFile};
 ghost use Rattle.commands.specs.Files.{ArePassed, AreWritten, IsImageAt, IsImageOfFirst};
 ghost use Rattle.commands.specs.Files.{IsNoImageAt, IsNoTable, IsNoTableAt, IsOfParam};
-ghost use Rattle.commands.specs.Files.{IsTableAt, IsTableOfFirst};
+ghost use Rattle.commands.specs.Files.{IsReadSoFar, IsTableAt, IsTableOfFirst};
 ghost use Rattle.commands.specs.Files.{IsOutWritten, IsPassed};
-ghost use Rattle.commands.specs.Files.{IsUnpassed, IsWritten, image_in, out_file};
+ghost use Rattle.commands.specs.Files.{IsUnpassed, IsWritten, image_in, lacks_rest, out_file};
 ghost use Rattle.file_store.specs.Store.{files_of};
 ghost use Rattle.endings.specs.Halt.{bare};
 ghost use Rattle.commands.specs.Files.{AreFirst, IsFirstOf};
@@ -91,7 +90,7 @@ fn table_of<'a>(alloc: Global, bytes: &[u8]) -> Result<Table, Halt<'a>>
 
 /// Whether the fault that the beginning of a file shows may lie in the rest, where the file is too large for an image.
 fn lacks_rest(alloc: Global, file: &[u8]) -> bool
-    ensures { result ≡ true → length file.now ≡ MOST_OF_IMAGE }
+    ensures { result ≡ lacks_rest MOST_OF_IMAGE file.now }
 {
     file.len() == MOST_OF_IMAGE
         && matches!(
@@ -110,8 +109,7 @@ pub fn read_image_file<'a, S: Store>(
         (λ bytes. (files_of (S.held store.old)).holds path.entry.now bytes.items)
         (IsOfFile (files_of (S.held store.old)).unread path.entry.now) }
     ensures first { IfOk result (λ bytes.
-        IsFirst (S.known store.old) path.entry.now MOST_OF_IMAGE bytes.items
-        ⊎ IsFirst (S.known store.old) path.entry.now (2 ^ 64 - 1) bytes.items) }
+        IsReadSoFar (S.known store.old) path.entry.now MOST_OF_IMAGE bytes.items) }
     ensures files { S.held store.new ≡ S.held store.old }
     ensures known { S.known store.new ≡ S.known store.old }
 {

@@ -24,7 +24,7 @@ use block_checker::Accepted;
 use cert_maker::make_kept;
 use cert_note::Certificate;
 use elf_image::{Image, attach};
-use endings::{Did, Halt, Status, Stop, accept, not_attached, not_made};
+use endings::{Did, Halt, Status, accept, not_attached, not_made};
 use file_store::Store;
 use job_file::{MakeJob, make_job_in};
 use job_reasons::{Command, parameter_reason};
@@ -100,10 +100,7 @@ fn make_table<'a, S: Store, O: Stream>(
     let bytes = made(alloc, &job, file.as_slice(), &image)?;
     let budget = read_back(alloc, &job, bytes.as_slice())?.budget();
     write(alloc, paths.out, bytes.as_slice(), store)?;
-    match print_bound(&budget, output) {
-        Ok(()) => Ok(Did::Done),
-        Err(_) => Err(Halt::Plain(Stop::Output)),
-    }
+    print_bound(&budget, output)
 }
 
 /// The certificate that is made for a job of the loop at an image's entry.

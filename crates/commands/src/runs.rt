@@ -78,9 +78,8 @@ fn run_table<'a, S: Store, O: Stream>(
 {
     let Start { ready, args } = started(alloc, table, Command::Run, store)?;
     let trial = run_accepted(alloc, &ready, args)?;
-    let shown = trial.shown(alloc, registers)?;
     let params = &ready.job.params;
-    finish(alloc, params, &trial, None, shown.as_slice(), store, output)
+    finish(alloc, params, &trial, None, registers, store, output)
 }
 
 /// Runs a job on an accepted image and arguments, at the job's length of vector registers and setting.

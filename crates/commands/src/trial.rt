@@ -1,16 +1,15 @@
 //! What comes of a run: how it ended, the words for that, and which status the program has then.
-ghost use Rattle.std.specs.Prelude.{◌≡◌, ◌++◌, IfErr, IfOk, IfSome, None, OnOk, false, map};
+ghost use Rattle.std.specs.Prelude.{◌≡◌, ◌++◌, IfErr, IfOk, IfSome, MatchResult, None, OnOk};
+ghost use Rattle.std.specs.Prelude.{false, map};
 ghost use Rattle.job_file.specs.Needs.{run_param_lent};
 ghost use Rattle.rv_listing.specs.Sinks.{IsPassedOn, Told};
 ghost use Rattle.endings.specs.Did.{did_of};
-ghost use Rattle.commands.specs.Files.{IsUnfinished, outs_of};
 ghost use Rattle.file_store.specs.Store.{files_of};
 ghost use Rattle.endings.specs.Halt.{stop_of};
 ghost use Rattle.endings.specs.Stands.{stand_line, stand_text};
-ghost use Rattle.endings.specs.Streams.{Prints, stream};
+ghost use Rattle.endings.specs.Streams.{stream};
 ghost use Rattle.commands.specs.Changes.{change};
-ghost use Rattle.commands.specs.Trial.{end_line, line_of, shown_of};
-ghost use Rattle.file_store.specs.Written.{Gains};
+ghost use Rattle.commands.specs.Trial.{IsFinished, StopsFinishing, end_line, line_of, shown_of};
 ghost use Rattle.endings.specs.declared.stop.Stop.TheVariants.{Memory};
 
 use crate::files::write_outs;
@@ -177,33 +176,28 @@ fn put_trap<O: Sink>(fault: Fault, steps: u64, output: &mut O) -> Result<(), Fai
     )
 }
 
-/// Writes the out files of a run by place, and then prints how it ended, and behind it these lines. The run stands there.
+/// Writes the out files of a run by place, and then prints how it ended, and behind it its registers, where they are
+/// `asked` for. Want of memory for these comes before any file is written. The run stands there.
 pub fn finish<'a, S: Store, O: Stream>(
     alloc: Global,
     params: &[RunParam<&'a str>; 8],
     trial: &Trial,
     stand: Option<Stand>,
-    shown: &[u8],
+    asked: bool,
     store: &mut S,
     output: &mut O,
 ) -> Result<Did, Halt<'a>>
-    ensures did { IfOk result (λ did. did ≡ did_of trial.now.end stand) }
-    ensures told { OnOk result (Prints
+    ensures done { let c = (change (S.held store.old) (S.held store.new)
         (stream (O.contents output.old) (O.failures output.old))
-        (stream (O.contents output.new) (O.failures output.new))
-        (line_of trial.now ++ shown.now)) }
-    ensures wrote { OnOk result (Gains (S.held store.old) (S.held store.new)
-        (outs_of (map run_param_lent params.now) trial.now.args.places)) }
+        (stream (O.contents output.new) (O.failures output.new))) in
+        MatchResult result
+        (IsFinished c asked (map run_param_lent params.now) trial.now stand)
+        (StopsFinishing (files_of c.was) c asked (map run_param_lent params.now) trial.now) }
     ensures passed { OnOk result (IsPassedOn (O.passed output.new) (O.contents output.new)) }
-    ensures unfinished { IfErr result (λ why. IsUnfinished (files_of (S.held store.old))
-        (change (S.held store.old) (S.held store.new)
-        (stream (O.contents output.old) (O.failures output.old))
-        (stream (O.contents output.new) (O.failures output.new)))
-        (map run_param_lent params.now) trial.now.args.places (line_of trial.now ++ shown.now)
-        (stop_of why)) }
 {
+    let shown = trial.shown(alloc, asked)?;
     write_outs(alloc, params, &trial.args.places, store)?;
-    match trial.print(shown, output) {
+    match trial.print(shown.as_slice(), output) {
         Ok(()) => Ok(trial.did(stand)),
         Err(_) => Err(Halt::Plain(Stop::Output)),
     }

@@ -86,17 +86,8 @@ fn try_table<'a, S: Store, O: Stream>(
     let passed = passed_params(&job.params);
     let args = read_args(alloc, &passed, store)?;
     let Tried { trial, last } = run_tried(alloc, &job, &image, args)?;
-    let shown = trial.shown(alloc, registers)?;
     let stand = trial.stand(alloc, explain, &image, last);
-    finish(
-        alloc,
-        &passed,
-        &trial,
-        stand,
-        shown.as_slice(),
-        store,
-        output,
-    )
+    finish(alloc, &passed, &trial, stand, registers, store, output)
 }
 
 /// What comes of a run, and pc of the state before its last step, if it did one.

@@ -1,8 +1,10 @@
 -- What may come of the files at paths.
-use Rattle.std.specs.Prelude.{if◌then◌else◌, ◌≡◌, Bool, false, true, ℕ, List, [], ◌∷◌, Option, Some, None}
+use Rattle.std.specs.Prelude.{if◌then◌else◌, ◌≡◌, Bool, false, true, ℕ, List, [], ◌∷◌, Option, Some, None, Result, Ok, Err}
+use Rattle.std.specs.IoError.{error_kind}
 use Rattle.std.specs.Str.{bytes_eq}
+use Rattle.std.specs.declared.io.Error.{Error}
 use Rattle.std.specs.declared.io.ErrorKind.{ErrorKind}
-use Rattle.std.specs.declared.io.ErrorKind.TheVariants.{OutOfMemory}
+use Rattle.std.specs.declared.io.ErrorKind.TheVariants.{Other, OutOfMemory}
 use Rattle.file_store.specs.Written.{Held, Written}
 use Rattle.file_store.specs.declared.store.StoreError.{StoreError}
 use Rattle.file_store.specs.declared.store.StoreError.TheVariants as store_error
@@ -57,3 +59,14 @@ files_of (Some held) = record {
 abbrev pub store_error_of : ErrorKind → StoreError
 store_error_of OutOfMemory = store_error.NoMemory
 store_error_of _ = store_error.Failed
+
+-- what the system says where an error is of a kind: nothing where a file counts as one that never
+-- ends
+abbrev pub said : ErrorKind → Option ErrorKind
+said Other = None
+said kind = Some kind
+
+-- the same of what came of a call
+abbrev pub failure_of : {A : Type 0} → Result A Error → Option ErrorKind
+failure_of (Ok a) = None
+failure_of (Err error) = said (error_kind error)

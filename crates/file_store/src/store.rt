@@ -3,8 +3,7 @@ ghost use Rattle.std.specs.Io.KnownBytes.{Consumes, IsAtEnd};
 ghost use Rattle.std.specs.Prelude.{◌≡◌, ◌≤◌, ◌<◌, ◌+◌, IfErr, IfOk, None, Ok, OnOk, Some, length};
 ghost use Rattle.std.specs.Result.{is_err};
 ghost use Rattle.std.specs.IoError.{error_kind};
-ghost use Rattle.file_store.specs.Store.{store_error_of};
-ghost use Rattle.file_store.specs.Store.{if_failed};
+ghost use Rattle.file_store.specs.Store.{failure_of, if_failed, said, store_error_of};
 ghost use Rattle.file_store.specs.Sources.{IsUnread, source};
 ghost use Rattle.file_store.specs.System.{IsFirst, IsPut};
 ghost use Rattle.file_store.specs.declared.store.StoreError.TheVariants as store_error;
@@ -123,7 +122,9 @@ pub struct Disk<D> {
 }
 
 /// What the system says where an error is of this kind, if it says anything.
-fn said(kind: ErrorKind) -> Option<ErrorKind> {
+fn said(kind: ErrorKind) -> Option<ErrorKind>
+    ensures { result ≡ said kind }
+{
     if kind == ENDLESS { None } else { Some(kind) }
 }
 
@@ -149,7 +150,7 @@ impl<D> Disk<D> {
 
     /// What came of a call. What the system says where it failed is kept, if it says anything.
     fn kept<T>(&mut self, came: io::Result<T>) -> Result<T, StoreError>
-        ensures failure { OnOk result (self.new.failure ≡ None) }
+        ensures failure { self.new.failure ≡ failure_of came }
         ensures value { IfOk result (λ value. came ≡ Ok value) }
         ensures error { IfErr result (λ reason.
             IfErr came (λ error. reason ≡ store_error_of (error_kind error))) }

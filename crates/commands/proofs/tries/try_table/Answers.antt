@@ -1,10 +1,12 @@
-use Rattle.std.proofs.Common.{rules, ◌≡◌, ◌∙◌, ℕ, IfSome, Option, Some, inl, inr, map, refl, subst}
+use Rattle.std.proofs.Common.{◌≡◌, ◌∙◌, ℕ, IfSome, Option, Some, inl, inr, map, refl, subst}
 use Rattle.job_file.specs.Needs.{try_job_in, try_job_lent}
 use Rattle.toml.specs.View.{table_view}
+use Rattle.file_store.specs.Store.{files_of}
 use Rattle.endings.specs.Stands.{stand_line, stand_text}
 use Rattle.endings.specs.Streams.{stream}
+use Rattle.commands.specs.Changes.{change}
 use Rattle.commands.specs.Tries.{ExplainsTrial, passed_by, trial_of}
-use Rattle.commands.proofs.CommandLemmas.{asked_for, finished, handed_on, passed_after, unasked, unpassed_after, unshown}
+use Rattle.commands.proofs.CommandLemmas.{asked_for, finished, handed_on, or_ok, passed_after, stops_finished, unasked, unpassed_after}
 use Rattle.commands.proofs.WhyLemmas.{memory_opened}
 use Rattle.commands.specs.WrittenLemmas.{gains_none, nothing}
 use Rattle.commands.proofs.tries.try_table.Goals as goal
@@ -30,37 +32,30 @@ returns-in_err-trial-clause-done g c =
     let passed = passed_after _ _ _ _ _ c.in_ok-image.ensures.files c.passed_params-passed.ensures c.in_ok-args.ensures.passed in
     handed_on _ _ _ _ c.from_residual-in_err-trial.ensures.1 (inr (try_job_lent c.in_ok-job.job, asked, inr (c.in_ok-image.image, c.in_ok-image.ensures.image, inr (c.in_ok-args.args.places, passed, inl ((c.in_err-trial.ensures.answer, c.in_err-trial.ensures.told), (nothing _ _ (c.in_ok-args.ensures.files ∙ c.in_ok-image.ensures.files), refl))))))
 
-pub returns-in_err-shown-clause-done : goal.returns-in_err-shown-clause-done
-returns-in_err-shown-clause-done g c =
-    let asked : try_job_in (table_view c.args.table.now) ≡ Some (try_job_lent c.in_ok-job.job) = asked_for try_job_lent _ _ _ c.try_job_in.ensures c.in_ok-job.ensures in
-    let passed = passed_after _ _ _ _ _ c.in_ok-image.ensures.files c.passed_params-passed.ensures c.in_ok-args.ensures.passed in
-    let comes = unshown _ _ _ c.in_ok-trial.ensures.answer c.in_err-shown.ensures.memory in
-    handed_on _ _ _ _ c.from_residual-in_err-shown.ensures.1 (inr (try_job_lent c.in_ok-job.job, asked, inr (c.in_ok-image.image, c.in_ok-image.ensures.image, inr (c.in_ok-args.args.places, passed, inl ((comes, memory_opened _ _ _ _ _ c.in_err-shown.ensures.memory), (nothing _ _ (c.in_ok-args.ensures.files ∙ c.in_ok-image.ensures.files), refl))))))
-
 pub returns-clause-done : goal.returns-clause-done
 returns-clause-done g c =
     let job = try_job_lent c.in_ok-job.job in
+    let image = c.in_ok-image.image in
+    let args = c.in_ok-args.args.places in
+    let trial = c.in_ok-trial.field-0.trial in
     let asked : try_job_in (table_view c.args.table.now) ≡ Some job = asked_for try_job_lent _ _ _ c.try_job_in.ensures c.in_ok-job.ensures in
     let passed = passed_after _ _ _ _ _ c.in_ok-image.ensures.files c.passed_params-passed.ensures c.in_ok-args.ensures.passed in
-    let last = c.in_ok-trial.ensures.last in
-    let stands = subst (λ (l : Option ℕ). IfSome c.stand-stand.result (λ at. stand_text at ≡ stand_line c.in_ok-image.image l c.in_ok-trial.field-0.trial.registers c.in_ok-trial.field-0.trial.end)) last c.stand-stand.ensures.stand in
-    let text : c.as_slice.result.now ≡ c.in_ok-shown.shown.items = search rules in
-    finished (stream (g.O.Sink.contents c.args.output.now) (g.O.Sink.failures c.args.output.now)) (stream (g.O.Sink.contents c.finish.new.output) (g.O.Sink.failures c.finish.new.output)) (g.S.Store.held c.args.store.now) _ _ _ (map passed_by job.params) (trial_of job c.in_ok-image.image c.in_ok-args.args.places) (ExplainsTrial job c.in_ok-args.args.places) c.in_ok-trial.field-0.trial c.stand-stand.result c.args.registers c.as_slice.result.now c.finish.result _ _
-    c.passed_params-passed.ensures c.in_ok-trial.ensures.answer (c.in_ok-args.ensures.files ∙ c.in_ok-image.ensures.files) (text ∙ c.in_ok-shown.ensures.shown)
-    c.finish.ensures.did c.finish.ensures.told c.finish.ensures.wrote c.finish.ensures.unfinished
-    (λ did comes outs told done. record {
+    let old = (stream (g.O.Sink.contents c.args.output.now) (g.O.Sink.failures c.args.output.now)) in
+    let new = (stream (g.O.Sink.contents c.finish.new.output) (g.O.Sink.failures c.finish.new.output)) in
+    let left = (change (g.S.Store.held c.args.store.now) (g.S.Store.held c.finish.new.store) old new) in
+    let stands = subst (λ (l : Option ℕ). IfSome c.stand-stand.result (λ at. stand_text at ≡ stand_line image l trial.registers trial.end)) c.in_ok-trial.ensures.last c.stand-stand.ensures.stand in
+    finished old new left.was _ left.has _ (map passed_by job.params) c.args.registers trial c.stand-stand.result c.finish.result _ _ c.passed_params-passed.ensures (c.in_ok-args.ensures.files ∙ c.in_ok-image.ensures.files) c.finish.ensures.done
+    (λ did so. record {
       job = job;
       asked = asked;
-      image = c.in_ok-image.image;
+      image = image;
       there = c.in_ok-image.ensures.image;
-      args = c.in_ok-args.args.places;
+      args = args;
       passed = passed;
-      trial = c.in_ok-trial.field-0.trial;
-      comes = comes;
-      wrote = outs;
-      told = told;
+      trial = trial;
+      comes = or_ok (trial_of job image args) trial c.in_ok-trial.ensures.answer;
       stand = c.stand-stand.result;
       stands = stands;
-      done = done;
+      finished = so;
     })
-    (λ why so. inr (job, asked, inr (c.in_ok-image.image, c.in_ok-image.ensures.image, inr (c.in_ok-args.args.places, passed, so))))
+    (λ why so. inr (job, asked, inr (image, c.in_ok-image.ensures.image, inr (args, passed, stops_finished (files_of left.was) left c.args.registers (map passed_by job.params) (trial_of job image args) (ExplainsTrial job args) trial why c.in_ok-trial.ensures.answer (memory_opened _ _ _ _ _) so))))
