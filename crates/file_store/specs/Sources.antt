@@ -47,3 +47,9 @@ abbrev pub IsHeard : Option Input → Option Input → Type 0
 IsHeard None after = Unit {0}
 IsHeard (Some before) None = ⊥
 IsHeard (Some before) (Some after) = after.failures ≡ before.failures
+
+-- a call failed, where it is known how many did
+abbrev pub IsRefused : Option Input → Option Input → Type 0
+IsRefused None after = Unit {0}
+IsRefused (Some before) None = ⊥
+IsRefused (Some before) (Some after) = IsCounted before.failures after.failures

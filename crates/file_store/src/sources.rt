@@ -1,5 +1,6 @@
 //! What the input of `mon` comes from, and how reads are counted.
 ghost use Rattle.std.specs.Prelude.{◌≡◌, true};
+ghost use Rattle.std.specs.Result.{is_err};
 ghost use Rattle.rv_listing.specs.Sinks.{counted};
 ghost use Rattle.file_store.specs.Sources.{has_failed};
 
@@ -63,8 +64,18 @@ impl Counts {
         }
     }
 
-    /// Counts a call that failed.
-    pub fn count_failure(&mut self)
+    /// Counts a call that is no read, where it failed.
+    pub fn count_call<T>(&mut self, came: &io::Result<T>)
+        ensures reads { self.new.reads ≡ self.old.reads }
+        ensures failures { self.new.failures
+            ≡ counted (is_err came.now) self.old.failures }
+    {
+        if came.is_err() {
+            self.count_failure();
+        }
+    }
+
+    fn count_failure(&mut self)
         ensures reads { self.new.reads ≡ self.old.reads }
         ensures failures { self.new.failures ≡ counted true self.old.failures }
     {

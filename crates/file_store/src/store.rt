@@ -3,6 +3,7 @@ ghost use Rattle.std.specs.Io.KnownBytes.{Consumes, IsAtEnd};
 ghost use Rattle.std.specs.Prelude.{◌≡◌, ◌≤◌, ◌<◌, ◌+◌, IfErr, IfOk, None, Ok, OnOk, Some, length};
 ghost use Rattle.std.specs.Result.{is_err};
 ghost use Rattle.std.specs.IoError.{error_kind};
+ghost use Rattle.rv_listing.specs.Sinks.{IsCounted};
 ghost use Rattle.file_store.specs.Store.{failure_of, if_failed, said, store_error_of};
 ghost use Rattle.file_store.specs.Sources.{IsUnread, source};
 ghost use Rattle.file_store.specs.System.{IsFirst, IsPut};
@@ -11,7 +12,7 @@ ghost use Rattle.file_store.specs.declared.store.StoreError.TheVariants as store
 use crate::system::{Native, System};
 use std::alloc::{AllocError, Global};
 use std::error::Error;
-use std::io::{ErrorKind, Read, Write};
+use std::io::{ErrorKind, Read};
 use std::{fmt, io};
 
 /// How often a file, or the input of `mon`, is read from before it counts as one that never ends.
@@ -69,7 +70,7 @@ pub trait Store {
     ghost use Rattle.std.specs.Prelude.{◌≡◌, IfErr, IfOk, MatchResult, OnOk, Option, None};
     ghost use Rattle.std.specs.declared.io.ErrorKind.{ErrorKind};
     ghost use Rattle.file_store.specs.Store.{IsWritable, files_of, if_failed};
-    ghost use Rattle.file_store.specs.Sources.{Input, IsGivenUp, IsHeard, IsWithin};
+    ghost use Rattle.file_store.specs.Sources.{Input, IsGivenUp, IsHeard, IsRefused, IsWithin};
     ghost use Rattle.file_store.specs.System.{IsFirst, IsPut, Known};
     ghost use Rattle.file_store.specs.Written.{GainsOnOk, Held};
 
@@ -107,6 +108,8 @@ pub trait Store {
         ensures put { OnOk result (IsPut (known self.old) (known self.new) path.now bytes.now) }
         ensures may { OnOk result (IsWritable (held self.old) path.now) }
         ensures error { IfErr result ((files_of (held self.old)).unwritten path.now) }
+        ensures refused { IfErr result (λ error. IsRefused (input self.old) (input self.new)) }
+        ensures heard { OnOk result (IsHeard (input self.old) (input self.new)) }
         ensures done { OnOk result (failure self.new ≡ None) };
 
     /// What the system said of the last call, where that failed and the system said why.
@@ -275,9 +278,13 @@ fn read_opened<D: System>(
 
 /// Makes a file of a system at a path, with these bytes.
 fn write_file<D: System>(system: &mut D, path: &str, bytes: &[u8]) -> io::Result<()>
-    ensures { OnOk result (IsPut (D.known system.old) (D.known system.new) path.now bytes.now) }
+    ensures put { OnOk result
+        (IsPut (D.known system.old) (D.known system.new) path.now bytes.now) }
+    ensures heard { OnOk result (D.failures system.new ≡ D.failures system.old) }
+    ensures refused { IfErr result (λ error.
+        IsCounted (D.failures system.old) (D.failures system.new)) }
 {
     let mut file = system.create(path)?;
-    file.write_all(bytes)?;
+    system.write(&mut file, bytes)?;
     system.close(path, file)
 }

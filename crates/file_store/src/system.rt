@@ -10,7 +10,7 @@ use std::{fs, io};
 pub trait System {
     ghost use Rattle.std.specs.Prelude.{◌≡◌, IfOk, OnOk, Option, None, List, [], ℕ, true};
     ghost use Rattle.std.specs.Result.{is_err};
-    ghost use Rattle.std.specs.Io.KnownBytes.{ReadConsumes};
+    ghost use Rattle.std.specs.Io.KnownBytes.{Appends, ReadConsumes};
     ghost use Rattle.std.specs.Io.{ReadsAtMost};
     ghost use Rattle.rv_listing.specs.Sinks.{counted};
     ghost use Rattle.file_store.specs.Sources.{has_failed};
@@ -28,7 +28,7 @@ pub trait System {
     // How often its files were read from, up to 2^64 - 1.
     ghost reads: { Self → ℕ };
 
-    // How many of these reads, and of the openings, failed, up to 2^64 - 1.
+    // How many of these reads, and of all other calls, failed, up to 2^64 - 1.
     ghost failures: { Self → ℕ };
 
     /// The file at `path`, to be read from its first byte.
@@ -53,12 +53,24 @@ pub trait System {
     fn create(&mut self, path: &str) -> io::Result<Self::Writer>
         ensures empty { IfOk result (λ file.
             IsEmpty (known self.old) (Self.Writer.contents file)) }
-        ensures put { OnOk result (IsPut (known self.old) (known self.new) path.now []) };
+        ensures put { OnOk result (IsPut (known self.old) (known self.new) path.now []) }
+        ensures reads { reads self.new ≡ reads self.old }
+        ensures failures { failures self.new ≡ counted (is_err result) (failures self.old) };
+
+    /// Writes all of some bytes to a file that was made, behind those that it has taken.
+    fn write(&mut self, file: &mut Self::Writer, bytes: &[u8]) -> io::Result<()>
+        ensures taken { OnOk result (Appends (Self.Writer.contents file.old)
+            (Self.Writer.contents file.new) bytes.now) }
+        ensures kept { known self.new ≡ known self.old }
+        ensures reads { reads self.new ≡ reads self.old }
+        ensures failures { failures self.new ≡ counted (is_err result) (failures self.old) };
 
     /// Ends the writing of the file at `path`: from then on it has what its writer took.
     fn close(&mut self, path: &str, file: Self::Writer) -> io::Result<()>
         ensures closed { OnOk result (IsClosed (known self.old) (known self.new) path.now
-            (Self.Writer.contents file)) };
+            (Self.Writer.contents file)) }
+        ensures reads { reads self.new ≡ reads self.old }
+        ensures failures { failures self.new ≡ counted (is_err result) (failures self.old) };
 }
 
 /// The files that the handle `rt` opens. A path that is not absolute starts at the working directory.
@@ -91,9 +103,7 @@ impl<'a, R: Files> System for Native<'a, R> {
 
     fn open(&mut self, path: &str) -> io::Result<R::File> {
         let came = fs::open(self.rt, path);
-        if came.is_err() {
-            self.counts.count_failure();
-        }
+        self.counts.count_call(&came);
         came
     }
 
@@ -104,7 +114,15 @@ impl<'a, R: Files> System for Native<'a, R> {
     }
 
     fn create(&mut self, path: &str) -> io::Result<R::File> {
-        fs::create(self.rt, path)
+        let came = fs::create(self.rt, path);
+        self.counts.count_call(&came);
+        came
+    }
+
+    fn write(&mut self, file: &mut R::File, bytes: &[u8]) -> io::Result<()> {
+        let came = file.write_all(bytes);
+        self.counts.count_call(&came);
+        came
     }
 
     // The handle is closed where it is let go.

@@ -1,9 +1,11 @@
 //! `Disk` over a system whose reader gives one byte at a time, and that can fail at each of its calls.
+ghost use Rattle.std.specs.Prelude.{◌≡◌, ◌++◌, OnOk};
+
 use crate::tests::assertions::given;
 use commands::{Counts, Disk, Store, StoreError, System};
 use std::alloc::Global;
 use std::io;
-use std::io::{ErrorKind, Read};
+use std::io::{ErrorKind, Read, Write};
 
 /// Gives its bytes one at a time.
 #[derive(Drop)]
@@ -29,6 +31,7 @@ enum Refused {
     Nothing,
     Open,
     Create,
+    Write,
     Close,
 }
 
@@ -61,6 +64,26 @@ impl Drawer {
         let bytes = Vec::from_slice(self.alloc, self.bytes.as_slice())?;
         Ok(Slow { bytes, done: 0 })
     }
+
+    /// What a file is written to.
+    fn empty(&self) -> io::Result<Vec<u8>> {
+        self.unless(Refused::Create, ErrorKind::PermissionDenied)?;
+        Ok(Vec::new(self.alloc))
+    }
+
+    /// Writes bytes to a file.
+    fn add(&self, file: &mut Vec<u8>, bytes: &[u8]) -> io::Result<()>
+        ensures { OnOk result (file.new.items ≡ file.old.items ++ bytes.now) }
+    {
+        self.unless(Refused::Write, ErrorKind::StorageFull)?;
+        file.write_all(bytes)
+    }
+
+    /// A path to keep a file at.
+    fn label(&self, path: &str) -> io::Result<String> {
+        self.unless(Refused::Close, ErrorKind::OutOfMemory)?;
+        Ok(String::from_str(self.alloc, path)?)
+    }
 }
 
 impl System for Drawer {
@@ -74,9 +97,7 @@ impl System for Drawer {
 
     fn open(&mut self, path: &str) -> io::Result<Slow> {
         let came = self.slow(path);
-        if came.is_err() {
-            self.counts.count_failure();
-        }
+        self.counts.count_call(&came);
         came
     }
 
@@ -87,13 +108,21 @@ impl System for Drawer {
     }
 
     fn create(&mut self, _path: &str) -> io::Result<Vec<u8>> {
-        self.unless(Refused::Create, ErrorKind::PermissionDenied)?;
-        Ok(Vec::new(self.alloc))
+        let came = self.empty();
+        self.counts.count_call(&came);
+        came
+    }
+
+    fn write(&mut self, file: &mut Vec<u8>, bytes: &[u8]) -> io::Result<()> {
+        let came = self.add(file, bytes);
+        self.counts.count_call(&came);
+        came
     }
 
     fn close(&mut self, path: &str, file: Vec<u8>) -> io::Result<()> {
-        self.unless(Refused::Close, ErrorKind::OutOfMemory)?;
-        self.path = String::from_str(self.alloc, path)?;
+        let came = self.label(path);
+        self.counts.count_call(&came);
+        self.path = came?;
         self.bytes = file;
         Ok(())
     }
@@ -130,6 +159,7 @@ fn tells_which_call_failed(rt: HostRuntime) {
     let (denied, memory) = (ErrorKind::PermissionDenied, ErrorKind::OutOfMemory);
     for (refused, kind, error) in [
         (Refused::Create, denied, StoreError::Failed),
+        (Refused::Write, ErrorKind::StorageFull, StoreError::Failed),
         (Refused::Close, memory, StoreError::NoMemory),
     ] {
         let mut disk = empty_drawer(alloc, refused);
